@@ -1,0 +1,5 @@
+pub mod Table
+pub mod Validity
+pub mod Grammar
+pub mod Layout
+pub mod Shape

@@ -1,0 +1,83 @@
+-- Folds over lists: every, some, a sum, a maximum, no two alike; and their laws.
+-- Assumes nothing.
+use mathlib.Core.Path.{_≡_, refl, ap, _∙_}
+use mathlib.Core.Bool.{Bool, true, false, not, _&&_, _||_}
+use mathlib.Core.List.{List, [], _∷_}
+use Prim.Native.Nat.{ℕ, zero, suc, _+_, _*_, _≤_, _<_, max}
+use native.Mathlib.Nat.{not-suc-le-zero, le-of-suc-le-suc}
+use native.Mathlib.Omega.{arith}
+use lib.ListN.{length, take, getD}
+use Rattle.lists.specs.Tests.{and-false}
+
+module _ {A : Type 0} where
+  abbrev pub all : (A → Bool) → List A → Bool
+  all p [] = true
+  all p (x ∷ xs) = p x && all p xs
+
+  abbrev pub any : (A → Bool) → List A → Bool
+  any p [] = false
+  any p (x ∷ xs) = p x || any p xs
+
+  -- the sum of f over the elements
+  abbrev pub total : (A → ℕ) → List A → ℕ
+  total f [] = 0
+  total f (x ∷ xs) = f x + total f xs
+
+  -- the maximum of f over the elements, 0 for none
+  abbrev pub maximum : (A → ℕ) → List A → ℕ
+  maximum f [] = 0
+  maximum f (x ∷ xs) = max (f x) (maximum f xs)
+
+  -- no element is like a later one
+  abbrev pub distinct : (A → A → Bool) → List A → Bool
+  distinct like [] = true
+  distinct like (x ∷ xs) = not (any (like x) xs) && distinct like xs
+
+  -- every element passes the test, and no two are alike
+  abbrev pub sound : (A → Bool) → (A → A → Bool) → List A → Bool
+  sound ok like xs = all ok xs && distinct like xs
+
+  -- every element has the property
+  abbrev pub Each : (A → Type 0) → List A → Type 0
+  Each P [] = Unit {0}
+  Each P (x ∷ xs) = P x × Each P xs
+
+  pub each-at : (P : A → Type 0) (l : List A) (d : A) → Each P l → (i : ℕ) → i < length l → P (getD l i d)
+  each-at P [] d h i k = absurd (not-suc-le-zero k)
+  each-at P (x ∷ xs) d h zero k = h .0
+  each-at P (x ∷ xs) d h (suc i) k = each-at P xs d (h .1) i (le-of-suc-le-suc k)
+
+  pub each-take : (P : A → Type 0) (n : ℕ) (l : List A) → Each P l → Each P (take n l)
+  each-take P zero l h = tt
+  each-take P (suc n) [] h = tt
+  each-take P (suc n) (x ∷ xs) h = (h .0, each-take P n xs (h .1))
+
+  -- ---- sums
+  -- n numbers that are at most m
+  pub total-most : (f : A → ℕ) (m : ℕ) (l : List A) → Each (λ x. f x ≤ m) l → total f l ≤ length l * m
+  total-most f m [] h = omega arith
+  total-most f m (x ∷ xs) h = omega (arith, h .0, total-most f m xs (h .1))
+
+  -- a part from the front adds up to no more than a longer one
+  pub total-take : (f : A → ℕ) (i j : ℕ) (l : List A) → i ≤ j → total f (take i l) ≤ total f (take j l)
+  total-take f zero j l h = omega arith
+  total-take f (suc i) zero l h = absurd (not-suc-le-zero h)
+  total-take f (suc i) (suc j) [] h = omega arith
+  total-take f (suc i) (suc j) (x ∷ xs) h = omega (arith, total-take f i j xs (le-of-suc-le-suc h))
+
+  -- the part up to an element, and the element, add up to the part with it
+  pub total-next : (f : A → ℕ) (i : ℕ) (l : List A) (d : A) → i < length l → total f (take (suc i) l) ≡ total f (take i l) + f (getD l i d)
+  total-next f i [] d h = absurd (not-suc-le-zero h)
+  total-next f zero (x ∷ xs) d h = omega arith
+  total-next f (suc i) (x ∷ xs) d h = omega (arith, total-next f i xs d (le-of-suc-le-suc h))
+
+  -- ---- one element of a list that is to be sound
+  module _ (ok : A → Bool) (like : A → A → Bool) (x : A) (xs : List A) where
+    pub sound-more : ok x ≡ true → any (like x) xs ≡ false → sound ok like (x ∷ xs) ≡ sound ok like xs
+    sound-more p q = rw (p, q)
+
+    pub sound-fails : ok x ≡ false → sound ok like (x ∷ xs) ≡ false
+    sound-fails p = rw p
+
+    pub sound-alike : any (like x) xs ≡ true → sound ok like (x ∷ xs) ≡ false
+    sound-alike q = rw q (and-false (ok x && all ok xs))

@@ -1,0 +1,71 @@
+-- Tests: a choice by a test, a number between two, and what `&&`, `||` and `not` say of their parts.
+-- Assumes nothing.
+use mathlib.Core.Path.{_≡_, refl, sym}
+use mathlib.Core.Bool.{Bool, true, false, not, _&&_, _||_}
+use Prim.Native.Nat.{ℕ, _≤_, _<_}
+use native.Mathlib.Omega.{arith}
+use lib.Dec.{leb}
+use borrow.Author.Tests.{le-leb, lt-leb, leb-true}
+
+-- the first where the test holds, else the second
+abbrev pub cond {ℓ} : {A : Type ℓ} → Bool → A → A → A
+cond true x y = x
+cond false x y = y
+
+-- at least the first number and at most the second
+abbrev pub within : ℕ → ℕ → ℕ → Bool
+within lo hi n = leb lo n && leb n hi
+
+-- no test is both true and false
+pub not-both : {A : Type 0} (b : Bool) → b ≡ true → b ≡ false → A
+not-both b p q = absurd (let z : _≡_ {A = ℕ} 0 1 = cc in omega arith)
+
+-- a test with its outcome, for a proof that goes on by cases
+pub data Outcome (b : Bool) : Type 0 where
+  holds : b ≡ true → Outcome b
+  fails : b ≡ false → Outcome b
+
+pub outcome : (b : Bool) → Outcome b
+outcome true = holds refl
+outcome false = fails refl
+
+pub and-left : (a b : Bool) → (a && b) ≡ true → a ≡ true
+and-left true b h = refl
+and-left false b h = h
+
+pub and-right : (a b : Bool) → (a && b) ≡ true → b ≡ true
+and-right true b h = h
+and-right false b h = not-both false h refl
+
+pub or-left : (a b : Bool) → (a || b) ≡ false → a ≡ false
+or-left true b h = h
+or-left false b h = refl
+
+pub or-right : (a b : Bool) → (a || b) ≡ false → b ≡ false
+or-right true b h = not-both true refl h
+or-right false b h = h
+
+pub and-false : (a : Bool) → (a && false) ≡ false
+and-false true = refl
+and-false false = refl
+
+pub or-true : (a : Bool) → (a || true) ≡ true
+or-true true = refl
+or-true false = refl
+
+-- ---- between two numbers
+module _ (lo hi n : ℕ) where
+  pub within-inside : lo ≤ n → n ≤ hi → within lo hi n ≡ true
+  within-inside p q = rw (le-leb lo n p, le-leb n hi q)
+
+  pub within-below : n < lo → within lo hi n ≡ false
+  within-below p = rw (lt-leb lo n p)
+
+  pub within-above : hi < n → within lo hi n ≡ false
+  within-above p = rw (lt-leb n hi p) (and-false (leb lo n))
+
+  pub within-least : within lo hi n ≡ true → lo ≤ n
+  within-least h = leb-true lo n (and-left (leb lo n) (leb n hi) h)
+
+  pub within-most : within lo hi n ≡ true → n ≤ hi
+  within-most h = leb-true n hi (and-right (leb lo n) (leb n hi) h)
