@@ -1,15 +1,13 @@
 -- What every value of the kept types has, whoever made it: arrays of sixteen, and numbers that fit their bytes. Whoever owns a value knows this of it
 -- (proofs/Known.antt); a contract need not ask it.
-use Prim.Native.Nat.{ℕ, _+_, _*_, _≤_, _<_}
-use native.Mathlib.Nat.{mul-le-mul}
+use Prim.Native.Nat.{ℕ, _+_, _≤_, _<_}
 use native.Mathlib.Omega.{arith}
-use mathlib.Core.Path.{_≡_, refl, ap, _∙_}
+use mathlib.Core.Path.{_≡_}
 use mathlib.Core.List.{List, [], _∷_}
-use lib.ListN.{length, getD, take, drop, length-take}
-use Rattle.lists.specs.Folds.{Each, each-at, each-take, total, total-most}
+use lib.ListN.{length, getD, take, drop}
+use Rattle.lists.specs.Folds.{Each, each-at}
 use Rattle.lists.specs.Rest.{rest-more, rest-none}
 use Rattle.definition.specs.Table.{max-fields, max-files, no-field, beyond, fields-of, field-count, files-of, file-count}
-use Rattle.definition.specs.Layout.{field-length, record-length, slot-length, file-size}
 use Rattle.definition.specs.declared.Field.{Field}
 use Rattle.definition.specs.declared.File.{File}
 use Rattle.definition.specs.declared.Definition.{Definition}
@@ -52,23 +50,3 @@ no-file-left d i h = rest-none (file-count d) (d .files) i h
 
 pub file-shape-at : (d : Definition) → DefinitionShape d → (i : ℕ) → i < max-files → FileShape (getD (d .files) i beyond)
 file-shape-at d s i h = each-at FileShape (d .files) beyond (s .each-file) i (omega (arith, s .places))
-
--- ---- sizes of any kept file, valid or not
-lengths-small : (l : List Field) → Each FieldShape l → Each (λ f. field-length f ≤ 255) l
-lengths-small [] h = tt
-lengths-small (x ∷ xs) h = (omega (arith, h .0 .small-length), lengths-small xs (h .1))
-
-pub record-length-most : (f : File) → FileShape f → record-length f ≤ 4080
-unfolding record-length
-record-length-most f s =
-    omega (
-      arith,
-      total-most field-length 255 (fields-of f) (lengths-small (fields-of f) (each-take FieldShape (field-count f) (f .fields) (s .each-field))),
-      length-take (field-count f) (f .fields),
-    )
-
-pub file-size-most : (f : File) → FileShape f → file-size f ≤ 267448335
-file-size-most f s =
-    let m : f .«max_isn» ≤ 65535 = omega (arith, s .small-max-isn) in
-    let w : slot-length f ≤ 4081 = omega (arith, record-length-most f s) in
-    mul-le-mul m w

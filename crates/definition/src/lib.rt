@@ -1,10 +1,8 @@
-// The definition table (document 01, 'Files and their definition'): which files there are, and the fields of each.
+// A definition (document 01, 'Files and their definition'): which files there are, and the fields of each.
 // A definition is a value of fixed size. Of each array only the first `count` places are in use; what the others hold means nothing.
 
-pub mod grammar;
-pub mod layout;
-pub mod table;
-pub mod validity;
+ghost use mathlib.Core.Path.{_≡_};
+ghost use Rattle.definition.specs.Table.{no-field, no-file, no-definition, field-count, file-count, same-name};
 
 // Places for files in a definition, and for fields in a file.
 pub const MAX_FILES: usize = 16;
@@ -51,39 +49,56 @@ pub struct Definition {
     pub files: [File; MAX_FILES],
 }
 
-// What a format byte and an option byte say.
-pub enum FormatByte {
-    Known(Format),
-    Unknown,
+fn no_field() -> Field
+    ensures { λ r. ⌜ r ≡ no-field ⌝ }
+{
+    Field {
+        name: Name {
+            first: 0,
+            second: 0,
+        },
+        length: 0,
+        format: Format::Alphanumeric,
+        option: FieldOption::Plain,
+    }
 }
 
-pub enum OptionByte {
-    Known(FieldOption),
-    Unknown,
+pub fn no_file() -> File
+    ensures { λ r. ⌜ r ≡ no-file ⌝ }
+{
+    let fields = [no_field(); MAX_FIELDS];
+    File {
+        number: 0,
+        max_isn: 0,
+        count: 0,
+        fields,
+    }
 }
 
-// One item of a table, or none that is right.
-pub enum Item {
-    File { number: u8, max_isn: u16 },
-    Field(Field),
-    End,
-    Broken,
+pub fn no_definition() -> Definition
+    ensures { λ r. ⌜ r ≡ no-definition ⌝ }
+{
+    let files = [no_file(); MAX_FILES];
+    Definition { count: 0, files }
 }
 
-// Where a table ends in the bytes that it was read from: the index after its last item.
-pub enum End {
-    At(usize),
-    Broken,
+// The fields in use. A count past the places counts as all of them.
+pub fn field_count(f: File) -> usize
+    ensures { λ r. ⌜ r ≡ field-count f ⌝ }
+{
+    let n = f.count as usize;
+    if n < MAX_FIELDS { n } else { MAX_FIELDS }
 }
 
-// A table that was read. Where it is broken the definition has no file.
-pub struct Reading {
-    pub end: End,
-    pub definition: Definition,
+pub fn file_count(d: Definition) -> usize
+    ensures { λ r. ⌜ r ≡ file-count d ⌝ }
+{
+    let n = d.count as usize;
+    if n < MAX_FILES { n } else { MAX_FILES }
 }
 
-// The place of a file in its table.
-pub enum Found {
-    At(usize),
-    Nowhere,
+pub fn same_name(m: Name, n: Name) -> bool
+    ensures { λ r. ⌜ r ≡ same-name m n ⌝ }
+{
+    m.first == n.first && m.second == n.second
 }

@@ -1,0 +1,27 @@
+-- `record_length` meets its contract: no file has more than 16 fields.
+-- Assumes nothing.
+use mathlib.Core.Path.{ap, _∙_}
+use native.Mathlib.Omega.{arith}
+use lib.ListN.{length-take}
+use lib.Seq.{take-all}
+use Rattle.lists.specs.Folds.{total}
+use Rattle.definition.specs.Table.{fields-of, field-count}
+use Rattle.layout.specs.Layout.{field-length, field-offset, record-length}
+use borrow.Author.Needs.{needs}
+use Rattle.layout.proofs.record_length.Statement.{statement}
+use Rattle.layout.proofs.record_length.Tie as tie
+use Rattle.layout.proofs.record_length.Reads as reads
+use Rattle.layout.proofs.record_length.Lts as lts
+use Rattle.layout.proofs.field_offset.Reads as field-offset-reads
+
+field-offset-requires : tie.Need-field-offset-requires
+field-offset-requires c κs = search needs
+
+returns : tie.Need-returns
+unfolding field-offset record-length
+returns c =
+    let f = c .before .args .f in
+    c .field-offset .ensures ∙ ap (total field-length) (take-all 16 (fields-of f) (omega (arith, length-take (field-count f) (f .fields))))
+
+pub record-length-spec : {M : Type 1} → statement M
+record-length-spec = tie.close (tie.spec field-offset-requires returns)
