@@ -23,8 +23,8 @@ max-fields = 16
 abbrev pub max-number : ℕ
 max-number = 16
 
-abbrev pub max-max-isn : ℕ
-max-max-isn = 4095
+abbrev pub max-isn-limit : ℕ
+max-isn-limit = 4095
 
 abbrev pub max-record-length : ℕ
 max-record-length = 512

@@ -9,6 +9,22 @@ pub const MAX_FILES: usize = 16;
 
 pub const MAX_FIELDS: usize = 16;
 
+// The greatest file number, the greatest highest ISN, and the most bytes that the fields of a file take together.
+pub const MAX_NUMBER: usize = 16;
+
+pub const MAX_ISN_LIMIT: usize = 4095;
+
+pub const MAX_RECORD_LENGTH: usize = 512;
+
+// The greatest length of a field, by its format.
+pub const MAX_ALPHANUMERIC: u8 = 253;
+
+pub const MAX_BINARY: u8 = 126;
+
+pub const MAX_UNPACKED: u8 = 29;
+
+pub const MAX_PACKED: u8 = 15;
+
 // Document 01's `A`, `B`, `U` and `P`.
 pub enum Format {
     Alphanumeric,

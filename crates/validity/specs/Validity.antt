@@ -4,7 +4,7 @@ use mathlib.Core.Bool.{Bool, _&&_, _||_}
 use lib.Dec.{leb}
 use Rattle.lists.specs.Tests.{within}
 use Rattle.lists.specs.Folds.{sound}
-use Rattle.definition.specs.Table.{max-number, max-max-isn, max-fields, max-files, max-record-length, max-length, fields-of, files-of, named-alike, numbered-alike}
+use Rattle.definition.specs.Table.{max-number, max-isn-limit, max-fields, max-files, max-record-length, max-length, fields-of, files-of, named-alike, numbered-alike}
 use Rattle.layout.specs.Layout.{record-length}
 use Rattle.definition.specs.declared.Name.{Name}
 use Rattle.definition.specs.declared.Field.{Field}
@@ -29,7 +29,7 @@ field-valid f = name-valid (f .name) && within 1 (max-length (f .format)) (f .le
 unfoldable pub file-valid : File → Bool
 file-valid f =
     within 1 max-number (f .number) &&
-    within 1 max-max-isn (f .«max_isn») &&
+    within 1 max-isn-limit (f .«max_isn») &&
     within 1 max-fields (f .count) &&
     sound field-valid named-alike (fields-of f) &&
     leb (record-length f) max-record-length

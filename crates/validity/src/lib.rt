@@ -10,15 +10,16 @@ use definition::Definition;
 use definition::Field;
 use definition::File;
 use definition::Format;
+use definition::MAX_ALPHANUMERIC;
+use definition::MAX_BINARY;
 use definition::MAX_FIELDS;
 use definition::MAX_FILES;
+use definition::MAX_ISN_LIMIT;
+use definition::MAX_NUMBER;
+use definition::MAX_PACKED;
+use definition::MAX_RECORD_LENGTH;
+use definition::MAX_UNPACKED;
 use definition::Name;
-
-const MAX_NUMBER: usize = 16;
-
-const MAX_MAX_ISN: usize = 4095;
-
-const MAX_RECORD_LENGTH: usize = 512;
 
 fn within(lo: usize, hi: usize, n: usize) -> bool
     ensures { λ r. ⌜ r ≡ within lo hi n ⌝ }
@@ -31,10 +32,10 @@ fn max_length(format: Format) -> u8
     ensures { λ r. ⌜ r ≡ max-length format ⌝ }
 {
     match format {
-        Format::Alphanumeric => 253,
-        Format::Binary => 126,
-        Format::Unpacked => 29,
-        Format::Packed => 15,
+        Format::Alphanumeric => MAX_ALPHANUMERIC,
+        Format::Binary => MAX_BINARY,
+        Format::Unpacked => MAX_UNPACKED,
+        Format::Packed => MAX_PACKED,
     }
 }
 
@@ -106,7 +107,7 @@ fn file_valid(f: File) -> bool
     if !within(1, MAX_NUMBER, f.number as usize) {
         return false;
     }
-    if !within(1, MAX_MAX_ISN, f.max_isn as usize) {
+    if !within(1, MAX_ISN_LIMIT, f.max_isn as usize) {
         return false;
     }
     if !within(1, MAX_FIELDS, f.count as usize) {
