@@ -3,7 +3,7 @@ use Prim.Native.Nat.{ℕ, min}
 use mathlib.Core.Bool.{Bool, _&&_}
 use mathlib.Core.List.{List, []}
 use lib.Dec.{eqb}
-use lib.ListN.{take, replicate}
+use lib.ListN.{getD, take, replicate}
 use Rattle.definition.specs.declared.Format.{Format}
 use Rattle.definition.specs.declared.Format.the-variants.{Alphanumeric, Binary, Unpacked, Packed}
 use Rattle.definition.specs.declared.FieldOption.the-variants.{Plain}
@@ -50,6 +50,13 @@ beyond = record { number = 0; «max_isn» = 0; count = 0; fields = [] }
 -- no file at all: what stands where a table was refused. No rule lets it pass
 abbrev pub no-definition : Definition
 no-definition = record { count = 0; files = replicate max-files no-file }
+
+-- the place k of a file, and the place i of a definition
+abbrev pub field-at : File → ℕ → Field
+field-at f k = getD (f .fields) k no-field
+
+abbrev pub file-at : Definition → ℕ → File
+file-at d i = getD (d .files) i beyond
 
 -- ---- what is in use: the first `count` places, however large a count a kept value has
 abbrev pub field-count : File → ℕ

@@ -3,10 +3,10 @@
 use Prim.Native.Nat.{ℕ, _+_, _-_, _*_}
 use mathlib.Core.List.{List, [], _∷_}
 use lib.Dec.{eqb}
-use lib.ListN.{take, getD}
+use lib.ListN.{take}
 use Rattle.lists.specs.Tests.{cond}
 use Rattle.lists.specs.Folds.{total, maximum}
-use Rattle.definition.specs.Table.{no-file, fields-of, files-of}
+use Rattle.definition.specs.Table.{file-at, fields-of, files-of}
 use Rattle.definition.specs.declared.Field.{Field}
 use Rattle.definition.specs.declared.File.{File}
 use Rattle.definition.specs.declared.Definition.{Definition}
@@ -38,6 +38,10 @@ file-size f = f .«max_isn» * slot-length f
 -- where the first slot of the i-th file, from 0, begins in the store
 unfoldable pub file-offset : Definition → ℕ → ℕ
 file-offset d i = total file-size (take i (files-of d))
+
+-- where the slot of an ISN of the i-th file begins in the store
+abbrev pub slot-start : Definition → ℕ → ℕ → ℕ
+slot-start d i isn = file-offset d i + slot-offset (file-at d i) isn
 
 unfoldable pub store-size : Definition → ℕ
 store-size d = total file-size (files-of d)

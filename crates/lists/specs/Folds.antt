@@ -3,11 +3,12 @@
 use mathlib.Core.Path.{_≡_, refl, ap, _∙_}
 use mathlib.Core.Bool.{Bool, true, false, not, _&&_, _||_}
 use mathlib.Core.List.{List, [], _∷_}
-use Prim.Native.Nat.{ℕ, zero, suc, _+_, _*_, _≤_, _<_, max}
+use Prim.Native.Nat.{ℕ, zero, suc, _+_, _*_, _≤_, suc-le-suc, _<_, max}
 use native.Mathlib.Nat.{not-suc-le-zero, le-of-suc-le-suc}
 use native.Mathlib.Omega.{arith}
 use lib.ListN.{length, take, getD}
-use Rattle.lists.specs.Tests.{and-false}
+use borrow.Author.Tests.{not-true}
+use Rattle.lists.specs.Tests.{and-false, and-left, and-right, or-left, or-right}
 
 module _ {A : Type 0} where
   abbrev pub all : (A → Bool) → List A → Bool
@@ -47,10 +48,34 @@ module _ {A : Type 0} where
   each-at P (x ∷ xs) d h zero k = h .0
   each-at P (x ∷ xs) d h (suc i) k = each-at P xs d (h .1) i (le-of-suc-le-suc k)
 
+  pub each-index : (P : A → Type 0) (d : A) (l : List A) → ((i : ℕ) → i < length l → P (getD l i d)) → Each P l
+  each-index P d [] h = tt
+  each-index P d (x ∷ xs) h = (h zero (omega arith), each-index P d xs (λ i k. h (suc i) (suc-le-suc k)))
+
   pub each-take : (P : A → Type 0) (n : ℕ) (l : List A) → Each P l → Each P (take n l)
   each-take P zero l h = tt
   each-take P (suc n) [] h = tt
   each-take P (suc n) (x ∷ xs) h = (h .0, each-take P n xs (h .1))
+
+  -- ---- at an index
+  pub all-at : (p : A → Bool) (l : List A) (d : A) → all p l ≡ true → (i : ℕ) → i < length l → p (getD l i d) ≡ true
+  all-at p [] d h i k = absurd (not-suc-le-zero k)
+  all-at p (x ∷ xs) d h zero k = and-left (p x) (all p xs) h
+  all-at p (x ∷ xs) d h (suc i) k = all-at p xs d (and-right (p x) (all p xs) h) i (le-of-suc-le-suc k)
+
+  pub any-at : (p : A → Bool) (l : List A) (d : A) → any p l ≡ false → (i : ℕ) → i < length l → p (getD l i d) ≡ false
+  any-at p [] d h i k = absurd (not-suc-le-zero k)
+  any-at p (x ∷ xs) d h zero k = or-left (p x) (any p xs) h
+  any-at p (x ∷ xs) d h (suc i) k = any-at p xs d (or-right (p x) (any p xs) h) i (le-of-suc-le-suc k)
+
+  pub distinct-at : (like : A → A → Bool) (l : List A) (d : A) → distinct like l ≡ true → (i j : ℕ) → i < j → j < length l → like (getD l i d) (getD l j d) ≡ false
+  distinct-at like [] d h i j b k = absurd (not-suc-le-zero k)
+  distinct-at like (x ∷ xs) d h zero zero b k = absurd (not-suc-le-zero b)
+  distinct-at like (x ∷ xs) d h zero (suc j) b k =
+      any-at (like x) xs d (not-true (any (like x) xs) (and-left (not (any (like x) xs)) (distinct like xs) h)) j (le-of-suc-le-suc k)
+  distinct-at like (x ∷ xs) d h (suc i) zero b k = absurd (not-suc-le-zero b)
+  distinct-at like (x ∷ xs) d h (suc i) (suc j) b k =
+      distinct-at like xs d (and-right (not (any (like x) xs)) (distinct like xs) h) i j (le-of-suc-le-suc b) (le-of-suc-le-suc k)
 
   -- ---- sums
   -- n numbers that are at most m

@@ -1,0 +1,126 @@
+-- What a valid definition has, for callers: its files' rules one by one, different numbers and names, and sizes.
+-- Assumes nothing.
+use Prim.Native.Nat.{ℕ, zero, suc, _+_, _*_, _≤_, _<_}
+use native.Mathlib.Nat.{mul-le-mul, not-suc-le-zero}
+use native.Mathlib.Omega.{arith}
+use mathlib.Core.Path.{_≡_, refl, sym, ap}
+use mathlib.Core.Bool.{Bool, true, false, _&&_}
+use mathlib.Core.List.{List, [], _∷_}
+use lib.Dec.{eqb, ltb, leb}
+use lib.ListN.{length, take, getD, length-take}
+use lib.Seq.{getD-take, length-take-le}
+use borrow.Author.Tests.{ltb-true, ltb-false, leb-true, eqb-false}
+use Rattle.lists.specs.Tests.{Outcome, holds, fails, outcome, within, within-least, within-most, and-left, and-right}
+use Rattle.lists.specs.Folds.{all, distinct, sound, all-at, distinct-at, each-index, total-most}
+use Rattle.definition.specs.Table.{max-number, max-isn-limit, max-fields, max-files, max-record-length, no-field, beyond, field-at, file-at, field-count, fields-of, file-count, files-of, named-alike, numbered-alike}
+use Rattle.definition.specs.Shape.{FileShape, DefinitionShape}
+use Rattle.definition.specs.declared.File.{File}
+use Rattle.definition.specs.declared.Definition.{Definition}
+use Rattle.layout.specs.Layout.{record-length, slot-length, file-size, store-size, place}
+use Rattle.layout.specs.Laws.{place-found, place-nowhere}
+use Rattle.layout.specs.declared.Found.{Found}
+use Rattle.layout.specs.declared.Found.the-variants.{At, Nowhere}
+use Rattle.validity.specs.Validity.{field-valid, file-valid, valid}
+
+-- ---- a valid file
+pub record ValidFile (f : File) : Type 0 where
+  pub number-least : 1 ≤ f .number
+  pub number-most : f .number ≤ max-number
+  pub isn-least : 1 ≤ f .«max_isn»
+  pub isn-most : f .«max_isn» ≤ max-isn-limit
+  pub count-least : 1 ≤ f .count
+  pub count-most : f .count ≤ max-fields
+  pub fields-sound : sound field-valid named-alike (fields-of f) ≡ true
+  pub length-most : record-length f ≤ max-record-length
+
+pub valid-file : (f : File) → file-valid f ≡ true → ValidFile f
+unfolding file-valid
+valid-file f h =
+    let number : within 1 max-number (f .number) ≡ true = search (and-left, and-right) in
+    let isn : within 1 max-isn-limit (f .«max_isn») ≡ true = search (and-left, and-right) in
+    let count : within 1 max-fields (f .count) ≡ true = search (and-left, and-right) in
+    let fields : sound field-valid named-alike (fields-of f) ≡ true = search (and-left, and-right) in
+    let width : leb (record-length f) max-record-length ≡ true = search (and-left, and-right) in
+    record {
+      number-least = within-least 1 max-number (f .number) number;
+      number-most = within-most 1 max-number (f .number) number;
+      isn-least = within-least 1 max-isn-limit (f .«max_isn») isn;
+      isn-most = within-most 1 max-isn-limit (f .«max_isn») isn;
+      count-least = within-least 1 max-fields (f .count) count;
+      count-most = within-most 1 max-fields (f .count) count;
+      fields-sound = fields;
+      length-most = leb-true (record-length f) max-record-length width;
+    }
+
+-- no two fields of a valid file have one name
+pub names-apart : (f : File) → FileShape f → ValidFile f → (k j : ℕ) → k < j → j < field-count f → named-alike (field-at f k) (field-at f j) ≡ false
+names-apart f s v k j b h =
+    let places : field-count f ≤ length (f .fields) = omega (arith, s .places) in
+    let m : k < field-count f = omega arith in
+    let apart = and-right (all field-valid (fields-of f)) (distinct named-alike (fields-of f)) (v .fields-sound) in
+    rw (getD-take (field-count f) (f .fields) k no-field m, getD-take (field-count f) (f .fields) j no-field h) at
+    (distinct-at named-alike (fields-of f) no-field apart k j b (omega (arith, length-take-le (field-count f) (f .fields) places)))
+
+-- ---- a valid definition
+module _ (d : Definition) (s : DefinitionShape d) (v : valid d ≡ true) where
+  places : file-count d ≤ length (d .files)
+  places = omega (arith, s .places)
+
+  count : within 1 max-files (d .count) ≡ true
+  unfolding valid
+  count = and-left (within 1 max-files (d .count)) (sound file-valid numbered-alike (files-of d)) v
+
+  pub count-least : 1 ≤ file-count d
+  count-least = omega (arith, within-least 1 max-files (d .count) count)
+
+  files-sound : sound file-valid numbered-alike (files-of d) ≡ true
+  unfolding valid
+  files-sound = and-right (within 1 max-files (d .count)) (sound file-valid numbered-alike (files-of d)) v
+
+  pub valid-at : (i : ℕ) → i < file-count d → ValidFile (file-at d i)
+  valid-at i h =
+      let each = and-left (all file-valid (files-of d)) (distinct numbered-alike (files-of d)) files-sound in
+      let here = all-at file-valid (files-of d) beyond each i (omega (arith, length-take-le (file-count d) (d .files) places)) in
+      valid-file (file-at d i) (rw (getD-take (file-count d) (d .files) i beyond h) at here)
+
+  -- no two files have one number
+  pub numbers-apart : (i j : ℕ) → i < j → j < file-count d → file-at d i .number ≡ file-at d j .number → ⊥
+  numbers-apart i j b h =
+      let m : i < file-count d = omega arith in
+      let apart = and-right (all file-valid (files-of d)) (distinct numbered-alike (files-of d)) files-sound in
+      let unlike = distinct-at numbered-alike (files-of d) beyond apart i j b (omega (arith, length-take-le (file-count d) (d .files) places)) in
+      eqb-false _ _ (rw (getD-take (file-count d) (d .files) i beyond m, getD-take (file-count d) (d .files) j beyond h) at unlike)
+
+  -- so a file's number leads to its place
+  pub place-own : (i : ℕ) → i < file-count d → place d (file-at d i .number) ≡ At i
+  place-own i h = go (place d (file-at d i .number)) refl
+    where
+      go : (r : Found) → place d (file-at d i .number) ≡ r → r ≡ At i
+      go (At j) e =
+          let p = place-found d s (file-at d i .number) j e in
+          ap At (same j (p .0) (p .1) (outcome (ltb i j)) (outcome (ltb j i)))
+        where
+          same : (j : ℕ) → j < file-count d → file-at d j .number ≡ file-at d i .number → Outcome (ltb i j) → Outcome (ltb j i) → j ≡ i
+          same j k q (holds a) b = absurd (numbers-apart i j (ltb-true i j a) k (sym q))
+          same j k q (fails a) (holds b) = absurd (numbers-apart j i (ltb-true j i b) h q)
+          same j k q (fails a) (fails b) = omega (arith, ltb-false i j a, ltb-false j i b)
+      go Nowhere e = absurd (place-nowhere d s (file-at d i .number) i e h refl)
+
+  -- ---- sizes
+  pub file-size-valid : (i : ℕ) → i < file-count d → file-size (file-at d i) ≤ 2100735
+  file-size-valid i h =
+      let f = valid-at i h in
+      let w : slot-length (file-at d i) ≤ 513 = omega (arith, f .length-most) in
+      mul-le-mul (f .isn-most) w
+
+  pub store-size-valid : store-size d ≤ 33611760
+  unfolding store-size
+  store-size-valid =
+      omega (
+        arith,
+        total-most file-size 2100735 (files-of d) (each-index (λ f. file-size f ≤ 2100735) beyond (files-of d) (λ i k. rw (getD-take (file-count d) (d .files) i beyond (inside i k)) (file-size-valid i (inside i k)))),
+        length-take (file-count d) (d .files),
+      )
+    where
+      inside : (i : ℕ) → i < length (files-of d) → i < file-count d
+      inside i k = omega (arith, length-take (file-count d) (d .files))

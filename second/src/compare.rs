@@ -1,0 +1,453 @@
+//! Runs a list beside the journal and checks requirement 3, and a few cheap truths after each call.
+
+use crate::fields;
+use crate::hold::Entry;
+use crate::journal::{Journal, Records};
+use crate::machine::Machine;
+use crate::random::{List, ListCall};
+use crate::state::{self, Answer, Call, User};
+use std::collections::BTreeMap;
+use std::ops::Range;
+
+/// What every lent byte is at first: no null, no digit, no first byte of a record.
+pub const FILL: u8 = 0xA5;
+
+/// How often each response came. 113 has two rows: "113 (range)" is ISN 0 or above highest, "113 (record)" no record
+/// or one there.
+pub type Counts = BTreeMap<String, u64>;
+
+/// The labels that random lists reach: every response but 10, 11 and 12, and 113 by each of its rows.
+pub const REACHED: [&str; 20] = [
+    "0",
+    "3",
+    "9",
+    "17",
+    "22",
+    "29",
+    "41",
+    "44",
+    "47",
+    "53",
+    "55",
+    "70",
+    "72",
+    "75",
+    "113 (range)",
+    "113 (record)",
+    "144",
+    "145",
+    "146",
+    "198",
+];
+
+/// One line a label: how often it came, 0 where it did not.
+pub fn counts_text(counts: &Counts) -> String {
+    REACHED
+        .iter()
+        .map(|label| format!("{label:>12} {:>9}\n", counts.get(*label).unwrap_or(&0)))
+        .collect()
+}
+
+/// Sets up the nucleus of a list.
+pub fn machine(list: &List) -> Result<Machine, String> {
+    Machine::with_sizes(
+        &list.table,
+        list.capacity,
+        list.store,
+        list.queue,
+        list.images,
+        FILL,
+    )
+    .map_err(|response| format!("set-up answers {response}"))
+}
+
+/// Runs a list and compares; counts its responses. The error says what differs after which call.
+pub fn check_list(list: &List, counts: &mut Counts) -> Result<(), String> {
+    let mut machine = machine(list)?;
+    let mut journal = Journal::new(&list.table).ok_or("the journal refuses the table")?;
+    for (place, list_call) in list.calls.iter().enumerate() {
+        let at = |error: String| format!("seed {}, call {}: {error}", list.seed, place + 1);
+        let answer = checked_call(&mut machine, list_call).map_err(at)?;
+        let ListCall {
+            call,
+            format,
+            record,
+        } = list_call;
+        journal.feed(call, format, record, answer.response, answer.isn);
+        *counts.entry(label(&machine, call, &answer)).or_default() += 1;
+        compare(&machine, &journal).map_err(at)?;
+    }
+    check_back_outs(&machine, &journal).map_err(|error| format!("seed {}: {error}", list.seed))
+}
+
+fn label(machine: &Machine, call: &Call, answer: &Answer) -> String {
+    if answer.response != 113 {
+        return answer.response.to_string();
+    }
+    let max_isn = machine
+        .state
+        .definition
+        .used_files()
+        .iter()
+        .find(|file| file.number == call.file)
+        .map_or(0, |file| file.max_isn);
+    let out_of_range = call.isn == 0 || call.isn > max_isn;
+    let row = if out_of_range { "range" } else { "record" };
+    format!("113 ({row})")
+}
+
+/// Makes the call and checks what holds of every call on a well made state.
+fn checked_call(machine: &mut Machine, list_call: &ListCall) -> Result<Answer, String> {
+    let before = machine.clone();
+    let mut record = list_call.record.clone();
+    let answer = machine.call(&list_call.call, &list_call.format, &mut record);
+    check_call(&before, machine, list_call, &answer, &record)?;
+    Ok(answer)
+}
+
+/// A response of a random list is none of 10, 11, 12; the state stays well made; the answer of a refused call is
+/// 0, 0, 0 and it leaves what its row says; record buffer bytes past what is read stay; and a few truths of each answer.
+pub fn check_call(
+    before: &Machine,
+    after: &Machine,
+    list_call: &ListCall,
+    answer: &Answer,
+    record: &[u8],
+) -> Result<(), String> {
+    let ListCall { call, .. } = list_call;
+    if matches!(answer.response, 10..=12) {
+        return Err(format!("{answer:?}"));
+    }
+    if !state::is_well_made(&after.state, after.capacity, &after.queue) {
+        return Err(format!("{answer:?} leaves a state that is not well made"));
+    }
+    let reads = matches!(&call.command, b"L1" | b"L4" | b"RE") && answer.response == 0;
+    let written = if reads { answer.quantity } else { 0 };
+    if record[written..] != list_call.record[written..] {
+        return Err(format!("{answer:?} writes past the quantity"));
+    }
+    if answer.response == 0 {
+        check_holds(before, after, call, answer)
+    } else {
+        check_refused(before, after, call, answer)?;
+        check_limits(after, call, answer)?;
+        check_taken(after, list_call, answer)
+    }
+}
+
+/// After 0: RI, ET and BT count the entries that went, and after HI, L4 and each change the user holds the ISN answered.
+fn check_holds(
+    before: &Machine,
+    after: &Machine,
+    call: &Call,
+    answer: &Answer,
+) -> Result<(), String> {
+    let gone = held(before, call.user).saturating_sub(held(after, call.user));
+    let holds_it = holder(after, call.file, answer.isn) == Some(call.user);
+    let good = match &call.command {
+        b"RI" => answer.quantity == gone,
+        b"ET" | b"BT" => answer.quantity == gone && held(after, call.user) == 0,
+        b"HI" | b"L4" | b"A1" | b"E1" | b"N1" | b"N2" => holds_it,
+        _ => true,
+    };
+    good.then_some(())
+        .ok_or(format!("{answer:?} does not fit the hold queue"))
+}
+
+/// 47, 70 and 75 come only where the limit is met.
+fn check_limits(after: &Machine, call: &Call, answer: &Answer) -> Result<(), String> {
+    let hold_limit = after
+        .state
+        .users
+        .get(usize::from(call.user).wrapping_sub(1))
+        .map_or(0, |user| usize::from(user.hold_limit));
+    let met = match answer.response {
+        47 => held(after, call.user) >= hold_limit,
+        70 => after.state.entries == after.capacity,
+        75 => no_isn_is_free(after, call.file),
+        _ => true,
+    };
+    met.then_some(())
+        .ok_or(format!("{answer:?} before the limit is met"))
+}
+
+fn no_isn_is_free(machine: &Machine, number: u8) -> bool {
+    let records = machine.records();
+    machine
+        .state
+        .definition
+        .used_files()
+        .iter()
+        .filter(|file| file.number == number)
+        .flat_map(|file| 1..=file.max_isn)
+        .all(|isn| records.contains_key(&(number, isn)) || holder(machine, number, isn).is_some())
+}
+
+/// 198 comes only where another record has one of the values judged, now or after the BT of another user.
+fn check_taken(after: &Machine, list_call: &ListCall, answer: &Answer) -> Result<(), String> {
+    if answer.response != 198 {
+        return Ok(());
+    }
+    let call = &list_call.call;
+    let others = after
+        .in_transaction()
+        .into_iter()
+        .filter(|user| *user != call.user);
+    let backed_out = others.map(|user| after_bt(after, user).records());
+    let values = judged_values(after, list_call);
+    let taken = std::iter::once(after.records())
+        .chain(backed_out)
+        .any(|records| {
+            records.iter().any(|((file, isn), content)| {
+                let another = *file == call.file && (&call.command == b"N1" || *isn != call.isn);
+                another
+                    && values
+                        .iter()
+                        .any(|(range, value)| content[range.clone()] == value[..])
+            })
+        });
+    taken
+        .then_some(())
+        .ok_or(format!("{answer:?} for values that are free"))
+}
+
+/// What a BT of a user leaves, marked or not.
+fn after_bt(machine: &Machine, user: u8) -> Machine {
+    let mut unmarked = machine.clone();
+    unmarked.state.users[usize::from(user) - 1].overdue = false;
+    after_instead(&unmarked, &bt_of(user), *b"BT")
+}
+
+/// "One BT, option blank, clock 0."
+fn bt_of(user: u8) -> Call {
+    Call {
+        command: *b"BT",
+        option: b' ',
+        user,
+        file: 0,
+        isn: 0,
+        limit: 0,
+        clock: 0,
+    }
+}
+
+/// The values of the unique fields that a call judges, in stored form, with their places in a record.
+fn judged_values(machine: &Machine, list_call: &ListCall) -> Vec<(Range<usize>, Vec<u8>)> {
+    let files = machine.state.definition.used_files();
+    let Some(file) = files.iter().find(|file| file.number == list_call.call.file) else {
+        return Vec::new();
+    };
+    let elements = fields::elements(file, &list_call.format).unwrap_or_default();
+    let mut content = fields::null_record(file);
+    fields::replace_named(file, &elements, &list_call.record, &mut content);
+    (0..file.used_fields().len())
+        .filter(|index| file.fields[*index].is_unique())
+        .filter(|index| &list_call.call.command != b"A1" || elements.contains(index))
+        .map(|index| {
+            (
+                file.field_range(index),
+                content[file.field_range(index)].to_vec(),
+            )
+        })
+        .collect()
+}
+
+fn entries(machine: &Machine) -> &[Entry] {
+    &machine.queue[..machine.state.entries as usize]
+}
+
+fn held(machine: &Machine, user: u8) -> usize {
+    entries(machine)
+        .iter()
+        .filter(|entry| entry.user == user)
+        .count()
+}
+
+fn holder(machine: &Machine, file: u8, isn: u16) -> Option<u8> {
+    entries(machine)
+        .iter()
+        .find(|entry| entry.file == file && entry.isn == isn)
+        .map(|entry| entry.user)
+}
+
+/// "As below" is all but the clock, overdue back-outs and the session opened. Where nobody is overdue, that leaves
+/// the clock and the session; in any case it is what an RE of the same user and clock does. 9 by OP or CL does what a BT
+/// does.
+fn check_refused(
+    before: &Machine,
+    after: &Machine,
+    call: &Call,
+    answer: &Answer,
+) -> Result<(), String> {
+    if *answer != Answer::refused(answer.response) {
+        return Err(format!("{answer:?} is refused and not 0, 0, 0"));
+    }
+    let nothing_more = match answer.response {
+        22 | 72 => before == after,
+        9 if ended_by_9(before, call) => after_instead(before, call, *b"BT") == *after,
+        9 => after_instead(before, call, *b"RE") == *after,
+        _ => {
+            after_instead(before, call, *b"RE") == *after
+                && nobody_late_leaves_all(before, after, call)
+        }
+    };
+    if !nothing_more {
+        return Err(format!("{answer:?} changes more than its row allows"));
+    }
+    Ok(())
+}
+
+/// Whether 9 comes because of OP or CL in a transaction, and of no mark: then the call does what a BT does.
+fn ended_by_9(before: &Machine, call: &Call) -> bool {
+    let clock = before.state.clock.max(call.clock);
+    let caller = &before.state.users[usize::from(call.user) - 1];
+    caller.in_transaction && !caller.overdue && !caller.is_late(clock)
+}
+
+/// What another command of the same user and clock leaves, access-only or not.
+fn after_instead(before: &Machine, call: &Call, command: [u8; 2]) -> Machine {
+    let mut machine = before.clone();
+    let index = usize::from(call.user) - 1;
+    let caller = before.state.users[index];
+    machine.state.users[index].access_only = false;
+    let other = Call {
+        command,
+        option: b' ',
+        ..*call
+    };
+    machine.call(&other, &[], &mut [0; 64]);
+    let opened = !caller.session && machine.state.users[index].session;
+    machine.state.users[index].access_only = caller.access_only && !opened;
+    machine
+}
+
+fn nobody_late_leaves_all(before: &Machine, after: &Machine, call: &Call) -> bool {
+    let clock = before.state.clock.max(call.clock);
+    if before.state.users.iter().any(|user| user.is_late(clock)) {
+        return true;
+    }
+    let mut expected = before.clone();
+    expected.state.clock = clock;
+    open_session(&mut expected.state.users[usize::from(call.user) - 1]);
+    expected == *after
+}
+
+fn open_session(user: &mut User) {
+    if !user.session {
+        user.session = true;
+        user.hold_limit = 64;
+        user.time_limit = 900;
+        user.sequence = 0;
+        user.access_only = false;
+    }
+}
+
+/// "Equal are, in each file, the ISNs with a record and its bytes"; no unique value is in two records of its file;
+/// both have the same users in a transaction.
+fn compare(machine: &Machine, journal: &Journal) -> Result<(), String> {
+    let nucleus = machine.records();
+    let expected = journal.records();
+    if nucleus != expected {
+        return Err(format!(
+            "records differ: nucleus {nucleus:02X?}, journal {expected:02X?}"
+        ));
+    }
+    if machine.in_transaction() != journal.in_transaction() {
+        return Err(format!(
+            "in a transaction: nucleus {:?}, journal {:?}",
+            machine.in_transaction(),
+            journal.in_transaction()
+        ));
+    }
+    check_unique(machine, &nucleus)
+}
+
+/// "No unique value in two records of its file."
+fn check_unique(machine: &Machine, records: &Records) -> Result<(), String> {
+    for file in machine.state.definition.used_files() {
+        for index in 0..file.used_fields().len() {
+            if !file.fields[index].is_unique() {
+                continue;
+            }
+            let mut values: Vec<&[u8]> = records
+                .iter()
+                .filter(|((number, _), _)| *number == file.number)
+                .map(|(_, content)| &content[file.field_range(index)])
+                .collect();
+            let count = values.len();
+            values.sort();
+            values.dedup();
+            if values.len() != count {
+                return Err(format!("a unique value twice in file {}", file.number));
+            }
+        }
+    }
+    Ok(())
+}
+
+/// For every choice of the users in a transaction, in several orders: one BT of each, struck in the journal.
+fn check_back_outs(machine: &Machine, journal: &Journal) -> Result<(), String> {
+    for users in choices(&journal.in_transaction()) {
+        for order in orders(&users) {
+            check_back_out(machine, journal, &order)
+                .map_err(|error| format!("after BT of {order:?}: {error}"))?;
+        }
+    }
+    Ok(())
+}
+
+fn check_back_out(machine: &Machine, journal: &Journal, order: &[u8]) -> Result<(), String> {
+    let mut machine = machine.clone();
+    let mut journal = journal.clone();
+    for user in order {
+        let bt = ListCall {
+            call: bt_of(*user),
+            format: Vec::new(),
+            record: Vec::new(),
+        };
+        let answer = checked_call(&mut machine, &bt)?;
+        if answer.response != 0 {
+            return Err(format!("BT of {user} answers {answer:?}"));
+        }
+        journal.back_out(*user);
+        compare(&machine, &journal)?;
+    }
+    Ok(())
+}
+
+/// Every choice of users; they are few.
+fn choices(users: &[u8]) -> Vec<Vec<u8>> {
+    let users = &users[..users.len().min(6)];
+    (0..1u32 << users.len())
+        .map(|chosen| {
+            (0..users.len())
+                .filter(|place| chosen >> place & 1 == 1)
+                .map(|place| users[place])
+                .collect()
+        })
+        .collect()
+}
+
+/// Every order of up to three users; rising, falling and rotated for more.
+fn orders(users: &[u8]) -> Vec<Vec<u8>> {
+    match *users {
+        [] => vec![vec![]],
+        [a] => vec![vec![a]],
+        [a, b] => vec![vec![a, b], vec![b, a]],
+        [a, b, c] => vec![
+            vec![a, b, c],
+            vec![a, c, b],
+            vec![b, a, c],
+            vec![b, c, a],
+            vec![c, a, b],
+            vec![c, b, a],
+        ],
+        _ => {
+            let rising = users.to_vec();
+            let falling = users.iter().rev().copied().collect();
+            let mut rotated = users.to_vec();
+            rotated.rotate_left(2);
+            vec![rising, falling, rotated]
+        }
+    }
+}

@@ -1,0 +1,114 @@
+//! The house call list: program `partycall` from its input bytes to its output text.
+
+use crate::definition;
+use crate::machine::Machine;
+use crate::state::{Answer, Call, Command, COMMANDS};
+
+const STORE: usize = 32768;
+const CAPACITY: u32 = 64;
+const BODY: usize = 64;
+const FORMAT: usize = 16;
+const RECORD: usize = 35;
+/// The greatest width is 512, so no table needs more.
+const IMAGES: usize = CAPACITY as usize * definition::MAX_RECORD_LENGTH;
+
+/// The whole output. A bad table, kind, length or cut body ends it with the line `bad`.
+pub fn run(input: &[u8]) -> String {
+    let Some((mut machine, mut rest)) = set_up(input) else {
+        return "bad\n".to_string();
+    };
+    let mut output = String::new();
+    while !rest.is_empty() {
+        let Some((request, tail)) = read_call(rest) else {
+            return output + "bad\n";
+        };
+        output += &answer_line(&mut machine, request);
+        output.push('\n');
+        rest = tail;
+    }
+    output
+}
+
+/// Reads the table and sets up; answers the nucleus and the rest of the input.
+fn set_up(input: &[u8]) -> Option<(Machine, &[u8])> {
+    let (table, rest) = input.split_at(definition::table_length(input)?);
+    let queue = CAPACITY as usize;
+    let machine = Machine::with_sizes(table, CAPACITY, STORE, queue, IMAGES, 0).ok()?;
+    Some((machine, rest))
+}
+
+pub struct Request<'a> {
+    pub call: Call,
+    pub format: &'a [u8],
+    pub record: &'a [u8],
+}
+
+/// "A call is one byte, its place in the table of commands from 1, then 64 bytes." Answers the call and what follows
+/// it; none where it is bad.
+fn read_call(input: &[u8]) -> Option<(Request<'_>, &[u8])> {
+    let (kind, rest) = input.split_first()?;
+    let (_, command) = COMMANDS.get(usize::from(*kind).checked_sub(1)?)?;
+    if rest.len() < BODY {
+        return None;
+    }
+    let (body, tail) = rest.split_at(BODY);
+    Some((read_body(*command, body)?, tail))
+}
+
+/// "User 1, option 1, file 1, ISN 2, limit 2, clock 4, format length 1, format 16, record length 1, record 35."
+fn read_body(command: [u8; 2], body: &[u8]) -> Option<Request<'_>> {
+    let call = Call {
+        command,
+        user: body[0],
+        option: body[1],
+        file: body[2],
+        isn: u16::from_be_bytes([body[3], body[4]]),
+        limit: u16::from_be_bytes([body[5], body[6]]),
+        clock: u32::from_be_bytes([body[7], body[8], body[9], body[10]]),
+    };
+    let format = &body[12..12 + FORMAT];
+    let record = &body[29..29 + RECORD];
+    Some(Request {
+        call,
+        format: format.get(..usize::from(body[11]))?,
+        record: record.get(..usize::from(body[28]))?,
+    })
+}
+
+fn answer_line(machine: &mut Machine, request: Request) -> String {
+    let mut record = request.record.to_vec();
+    let answer = machine.call(&request.call, request.format, &mut record);
+    line(&request.call, &answer, &record)
+}
+
+/// "Response, ISN, quantity, sequence, and after a good L1, L4 or RE that wrote something the bytes in capital
+/// hexadecimal without blanks; one blank stands between these parts."
+pub fn line(call: &Call, answer: &Answer, record: &[u8]) -> String {
+    let mut line = format!(
+        "{} {} {} {}",
+        answer.response, answer.isn, answer.quantity, answer.sequence
+    );
+    let written = written(call, answer, record);
+    if !written.is_empty() {
+        line.push(' ');
+        line += &hex(written);
+    }
+    line
+}
+
+/// The bytes that a good L1, L4 or RE wrote.
+fn written<'a>(call: &Call, answer: &Answer, record: &'a [u8]) -> &'a [u8] {
+    let writes = matches!(
+        Command::from_code(call.command),
+        Some(Command::L1 | Command::L4 | Command::Re)
+    );
+    if writes && answer.response == 0 {
+        &record[..answer.quantity]
+    } else {
+        &[]
+    }
+}
+
+pub fn hex(bytes: &[u8]) -> String {
+    bytes.iter().map(|byte| format!("{byte:02X}")).collect()
+}

@@ -1,0 +1,567 @@
+//! Rows 11 and 12, short buffers and states that nobody set up; and random ones, in which no call may panic, touch
+//! what is past the sizes, or change more than its answer allows.
+
+mod common;
+use common::{file, two_files, GOOD_CALLS};
+use second::compare;
+use second::definition::{read_table, Definition, Field};
+use second::hold::Entry;
+use second::machine::Machine;
+use second::nucleus::set_up;
+use second::random::{self, ListCall, Random};
+use second::state::{is_well_made, lent_too_short, Answer, Call, State, User, COMMANDS};
+use second::store::store_size;
+use second::vectors;
+
+const STORE: usize = 3 * 4 + 2 * 6;
+const CAPACITY: u32 = 4;
+const IMAGES: usize = 4 * 5;
+
+/// A machine of two files in which user 1 holds and has changed ISN 1 of file 1.
+fn machine() -> Machine {
+    let mut bench = common::bench();
+    bench.run("N1 format=AA. record=31 clock=50 -> 0 1 0 0");
+    bench.machine
+}
+
+/// Every command, and an unknown one, with a bad option and a bad user too: the response, and all is left as it was.
+fn all_calls_answer(machine: &Machine, response: u16) {
+    let mut calls: Vec<Call> = GOOD_CALLS
+        .iter()
+        .map(|text| {
+            vectors::read_call(1, 1, &format!("{text} -> 0"))
+                .expect(text)
+                .call
+        })
+        .collect();
+    let hi = calls[0];
+    let command = *b"XX";
+    calls.push(Call { command, ..hi });
+    calls.push(Call { option: b'H', ..hi });
+    calls.push(Call { user: 0, ..hi });
+    for mut call in calls {
+        call.clock = 100_000;
+        let mut after = machine.clone();
+        let mut record = [7; 70];
+        let answer = after.call(&call, b"AA.", &mut record);
+        assert_eq!(answer, Answer::refused(response), "{call:?}");
+        assert_eq!(after, *machine, "{call:?}");
+        assert_eq!(record, [7; 70]);
+    }
+}
+
+/// The machine answers neither 11 nor 12.
+fn goes_on(machine: &Machine) {
+    let hi = vectors::read_call(1, 1, "HI user=2 isn=2 -> 0").expect("call");
+    let (answer, _, _) = vectors::run_call(&mut machine.clone(), &hi);
+    assert!(!matches!(answer.response, 11 | 12), "{answer:?}");
+}
+
+// 10 and 11 at set-up
+
+#[test]
+fn set_up_answers_11() {
+    let answer = |capacity, store, queue, images| {
+        let mut store = vec![7; store];
+        let mut queue = vec![Entry::default(); queue];
+        let mut images = vec![7; images];
+        let state = set_up(&two_files(), capacity, &mut store, &mut queue, &mut images);
+        if state.is_err() {
+            assert!(store.iter().chain(&images).all(|byte| *byte == 7));
+        }
+        state.err().unwrap_or(0)
+    };
+    assert_eq!(answer(4, STORE, 4, IMAGES), 0);
+    assert_eq!(answer(4, STORE - 1, 4, IMAGES), 11);
+    assert_eq!(answer(4, STORE, 3, IMAGES), 11);
+    assert_eq!(answer(4, STORE, 4, IMAGES - 1), 11);
+    assert_eq!(answer(4, 0, 0, 0), 11);
+    for (capacity, expected) in [(0, 11), (1, 0), (256, 0), (257, 11), (u32::MAX, 11)] {
+        assert_eq!(
+            answer(capacity, STORE, 300, 300 * 5),
+            expected,
+            "{capacity}"
+        );
+    }
+}
+
+#[test]
+fn set_up_answers_10_before_11() {
+    let table = common::table(&[file(1, 1)]);
+    let answer = set_up(&table, 0, &mut [], &mut [], &mut []);
+    assert_eq!(answer.err(), Some(10));
+}
+
+// 11 of a call
+
+#[test]
+fn r11_short_store() {
+    let mut machine = machine();
+    machine.store.pop();
+    all_calls_answer(&machine, 11);
+    machine.store.clear();
+    all_calls_answer(&machine, 11);
+}
+
+#[test]
+fn r11_short_queue() {
+    let mut machine = machine();
+    machine.queue.pop();
+    all_calls_answer(&machine, 11);
+    machine.queue.clear();
+    all_calls_answer(&machine, 11);
+}
+
+#[test]
+fn r11_short_images() {
+    let mut machine = machine();
+    machine.images.pop();
+    all_calls_answer(&machine, 11);
+    machine.images.clear();
+    all_calls_answer(&machine, 11);
+}
+
+#[test]
+fn r11_capacity() {
+    for capacity in [0, 257, u32::MAX] {
+        let mut machine = machine();
+        machine.capacity = capacity;
+        machine.queue.resize(300, Entry::default());
+        machine.images.resize(300 * 5, 0);
+        all_calls_answer(&machine, 11);
+    }
+}
+
+#[test]
+fn r11_before_12() {
+    let mut machine = machine();
+    machine.state.users[0].session = false;
+    all_calls_answer(&machine, 12);
+    machine.store.pop();
+    all_calls_answer(&machine, 11);
+}
+
+#[test]
+fn larger_buffers_are_good() {
+    let mut machine = machine();
+    machine.store.push(7);
+    machine.queue.push(Entry::default());
+    machine.images.push(7);
+    goes_on(&machine);
+}
+
+// 12 of a call
+
+#[test]
+fn r12_invalid_table_before_11() {
+    let mut machine = machine();
+    machine.state.definition.files[0].fields[0].format = b'X';
+    all_calls_answer(&machine, 12);
+    machine.store.clear();
+    machine.queue.clear();
+    machine.images.clear();
+    for capacity in [0, 257] {
+        machine.capacity = capacity;
+        all_calls_answer(&machine, 12);
+    }
+}
+
+#[test]
+fn r12_invalid_table() {
+    type Break = fn(&mut Definition);
+    let breaks: [Break; 14] = [
+        |table| table.count = 0,
+        |table| table.count = 3,
+        |table| table.count = 17,
+        |table| table.count = 255,
+        |table| table.files[1].number = 1,
+        |table| table.files[1].number = 0,
+        |table| table.files[1].number = 17,
+        |table| table.files[0].max_isn = 0,
+        |table| table.files[0].max_isn = 4096,
+        |table| table.files[0].count = 0,
+        |table| table.files[0].count = 17,
+        |table| table.files[0].fields[1].name = *b"AA",
+        |table| table.files[0].fields[0].length = 254,
+        |table| table.files[1].fields[1].option = 0,
+    ];
+    for break_rule in breaks {
+        let mut machine = machine();
+        break_rule(&mut machine.state.definition);
+        all_calls_answer(&machine, 12);
+    }
+}
+
+#[test]
+fn r12_entries() {
+    type Break = fn(&mut Machine);
+    let breaks: [Break; 12] = [
+        |machine| machine.state.entries = CAPACITY + 1,
+        |machine| machine.state.entries = u32::MAX,
+        |machine| machine.queue[1] = machine.queue[0],
+        |machine| machine.queue[1].file = 3,
+        |machine| machine.queue[1].file = 0,
+        |machine| machine.queue[1].isn = 0,
+        |machine| machine.queue[1].isn = 4,
+        |machine| machine.queue[1].user = 0,
+        |machine| machine.queue[1].user = 33,
+        |machine| machine.queue[1].user = 255,
+        |machine| machine.queue[1].user = 2,
+        |machine| machine.state.users[0].in_transaction = false,
+    ];
+    for break_rule in breaks {
+        let mut machine = machine();
+        machine.queue[1] = Entry {
+            isn: 3,
+            ..machine.queue[0]
+        };
+        machine.state.entries = 2;
+        goes_on(&machine);
+        break_rule(&mut machine);
+        all_calls_answer(&machine, 12);
+    }
+}
+
+#[test]
+fn r12_more_entries_than_capacity() {
+    let mut machine = machine();
+    machine.queue[1] = Entry {
+        isn: 3,
+        ..machine.queue[0]
+    };
+    machine.state.entries = 2;
+    machine.capacity = 1;
+    all_calls_answer(&machine, 12);
+}
+
+#[test]
+fn r12_users() {
+    type Break = fn(&mut State);
+    let breaks: [Break; 5] = [
+        |state| state.users[0].session = false,
+        |state| state.users[0].begun = 51,
+        |state| state.clock = 49,
+        |state| state.users[31].et_length = 65,
+        |state| {
+            state.users[7].in_transaction = true;
+        },
+    ];
+    for break_rule in breaks {
+        let mut machine = machine();
+        goes_on(&machine);
+        break_rule(&mut machine.state);
+        all_calls_answer(&machine, 12);
+    }
+}
+
+#[test]
+fn r12_last_assigned() {
+    for (place, greatest) in [(0, 3), (1, 2)] {
+        let mut machine = machine();
+        machine.state.last_assigned[place] = greatest;
+        goes_on(&machine);
+        machine.state.last_assigned[place] = greatest + 1;
+        all_calls_answer(&machine, 12);
+        machine.state.last_assigned[place] = u16::MAX;
+        all_calls_answer(&machine, 12);
+    }
+}
+
+/// What "well made" says nothing of.
+#[test]
+fn r12_not() {
+    type Change = fn(&mut Machine);
+    let changes: [Change; 12] = [
+        |machine| machine.state.users[0].hold_limit = 0,
+        |machine| machine.state.users[0].time_limit = 0,
+        |machine| machine.state.users[0].access_only = true,
+        |machine| machine.state.users[0].overdue = true,
+        |machine| machine.state.users[31].overdue = true,
+        |machine| machine.state.users[5].begun = u32::MAX,
+        |machine| machine.state.last_assigned[2] = u16::MAX,
+        |machine| machine.queue[0].changed = false,
+        |machine| machine.queue[1].user = 255,
+        |machine| machine.state.entries = 0,
+        |machine| machine.store.fill(1),
+        |machine| machine.state.definition.files[2].count = 255,
+    ];
+    for change in changes {
+        let mut machine = machine();
+        change(&mut machine);
+        goes_on(&machine);
+    }
+}
+
+// Random states
+
+/// A random machine, and whether it was left well made and large enough.
+fn random_machine(random: &mut Random) -> (Machine, bool) {
+    let mut machine = well_made_machine(random);
+    if random.once_in(2) {
+        return (machine, true);
+    }
+    for _ in 0..random.between(1, 3) {
+        spoil(random, &mut machine);
+    }
+    (machine, false)
+}
+
+fn well_made_machine(random: &mut Random) -> Machine {
+    let table = random::table(random);
+    let definition = read_table(&table).expect("valid");
+    let capacity = random.pick(&[1, 2, 3, 4, 6, 256]);
+    let spare = random.below(4) as usize;
+    let mut machine = Machine {
+        state: random_state(random, definition),
+        capacity,
+        store: (0..store_size(&definition) + spare)
+            .map(|_| random.pick(&[0, 1, 1, b'0', b' ', 0x0F, 0x0C, 0xFF]))
+            .collect(),
+        queue: (0..capacity as usize + spare)
+            .map(|_| random_entry(random))
+            .collect(),
+        images: (0..capacity as usize * definition.greatest_record_length() + spare)
+            .map(|_| random.pick(&[0, 1, b'0', b' ', 0x0F]))
+            .collect(),
+    };
+    hold_some(random, &mut machine);
+    machine
+}
+
+fn random_entry(random: &mut Random) -> Entry {
+    Entry {
+        user: random.below(5) as u8,
+        file: random.below(18) as u8,
+        isn: random.below(7) as u16,
+        changed: random.once_in(2),
+        existed: random.once_in(2),
+    }
+}
+
+fn random_state(random: &mut Random, mut definition: Definition) -> State {
+    for file in definition.files.iter_mut() {
+        for place in usize::from(file.count)..16 {
+            file.fields[place] = Field {
+                name: *b"AA",
+                length: random.number() as u8,
+                format: random.number() as u8,
+                option: b'U',
+            };
+        }
+    }
+    let mut state = State::fresh(definition);
+    state.clock = random.below(1000) as u32;
+    for user in &mut state.users {
+        *user = random_user(random, state.clock);
+    }
+    for mark in &mut state.last_assigned {
+        *mark = random.number() as u16;
+    }
+    for file in definition.used_files() {
+        let mark = random.between(0, u64::from(file.max_isn)) as u16;
+        state.last_assigned[usize::from(file.number) - 1] = mark;
+    }
+    state
+}
+
+fn random_user(random: &mut Random, clock: u32) -> User {
+    let in_transaction = random.once_in(3);
+    let mut user = User {
+        session: in_transaction || random.once_in(2),
+        hold_limit: random.pick(&[0, 1, 2, 64, u16::MAX]),
+        time_limit: random.pick(&[0, 5, 900, 900, 900, u16::MAX]),
+        sequence: random.pick(&[0, 7, u32::MAX - 1, u32::MAX]),
+        access_only: random.once_in(8),
+        in_transaction,
+        begun: random.number() as u32,
+        overdue: random.once_in(12),
+        et_length: random.pick(&[0, 1, 64]),
+        et_data: [random.number() as u8; 64],
+    };
+    if in_transaction {
+        user.begun = clock - random.below(u64::from(clock) + 1) as u32;
+    }
+    user
+}
+
+/// Fills the front of the queue with entries of users in a transaction, each of another ISN.
+fn hold_some(random: &mut Random, machine: &mut Machine) {
+    let holders = machine.in_transaction();
+    let mut isns: Vec<(u8, u16)> = machine
+        .state
+        .definition
+        .used_files()
+        .iter()
+        .flat_map(|file| (1..=file.max_isn).map(|isn| (file.number, isn)))
+        .collect();
+    let wanted = random.between(0, u64::from(machine.capacity)) as usize;
+    while !holders.is_empty() && !isns.is_empty() && (machine.state.entries as usize) < wanted {
+        let (file, isn) = isns.swap_remove(random.below(isns.len() as u64) as usize);
+        machine.queue[machine.state.entries as usize] = Entry {
+            user: random.pick(&holders),
+            file,
+            isn,
+            ..random_entry(random)
+        };
+        machine.state.entries += 1;
+    }
+}
+
+/// Changes one thing, which may or may not break a rule.
+fn spoil(random: &mut Random, machine: &mut Machine) {
+    let place = random.below(machine.queue.len() as u64 + 1) as usize;
+    let user = random.below(32) as usize;
+    let definition = &mut machine.state.definition;
+    match random.below(16) {
+        0 => machine.capacity = random.pick(&[0, 257, u32::MAX]),
+        1 => machine.capacity = random.between(1, 8) as u32,
+        2 => machine.queue.truncate(place),
+        3 => drop(machine.store.pop()),
+        4 => machine.store.truncate(place),
+        5 => drop(machine.images.pop()),
+        6 => machine.images.truncate(place),
+        7 => machine.state.entries = random.pick(&[1, 2, 256, 257, u32::MAX]),
+        8 => definition.count = random.number() as u8,
+        9 => definition.files[0].count = random.number() as u8,
+        10 => definition.files[0].max_isn = random.number() as u16,
+        11 => definition.files[0].number = random.below(18) as u8,
+        12 => definition.files[0].fields[0].length = random.number() as u8,
+        13 => machine.state.users[user].et_length = random.number() as u8,
+        14 => machine.state.users[user].in_transaction = random.once_in(2),
+        _ => {
+            if let Some(entry) = machine.queue.first_mut() {
+                *entry = random_entry(random);
+            }
+        }
+    }
+}
+
+fn random_call(random: &mut Random, machine: &Machine) -> ListCall {
+    let files = machine.state.definition.used_files();
+    let number = match files {
+        [] => 1,
+        _ => random.pick(files).number,
+    };
+    let call = Call {
+        command: random.pick(&COMMANDS).1,
+        option: random.pick(b"      IHA"),
+        user: random.between(1, 6) as u8,
+        file: number,
+        isn: random.below(6) as u16,
+        limit: random.below(3) as u16,
+        clock: random.below(2000) as u32,
+    };
+    let format = random.pick(&[
+        &b"AA."[..],
+        b"AB,AA.",
+        b"AA,AA.",
+        b"AC.",
+        b"AD,AC,AB,AA.",
+        b"",
+    ]);
+    let record = (0..random.pick(&[0, 1, 2, 4, 8, 64, 65]))
+        .map(|_| random.pick(&[0, 1, b'0', b'1', b' ', 0x0F, 0x0C, 0x1D]))
+        .collect();
+    ListCall {
+        call,
+        format: format.to_vec(),
+        record,
+    }
+}
+
+/// Random calls on random states and buffers: no panic, and what must hold of each call.
+#[test]
+fn random_states() {
+    let mut random = Random::new(58);
+    let mut refused = [0; 2];
+    let mut done = 0;
+    for _ in 0..150_000 {
+        let (before, good) = random_machine(&mut random);
+        let list_call = random_call(&mut random, &before);
+        let mut after = before.clone();
+        let mut record = list_call.record.clone();
+        let answer = after.call(&list_call.call, &list_call.format, &mut record);
+        match answer.response {
+            11 | 12 => {
+                refused[usize::from(answer.response - 11)] += 1;
+                assert!(!good, "{answer:?} for a good state");
+                assert_eq!(answer, Answer::refused(answer.response));
+                assert_eq!((&after, &record), (&before, &list_call.record));
+            }
+            _ => {
+                done += usize::from(answer.response == 0);
+                compare::check_call(&before, &after, &list_call, &answer, &record)
+                    .expect("a good call");
+                check_sizes(&before, &after);
+                check_others(&before, &after, &list_call.call, &answer);
+            }
+        }
+    }
+    println!("11: {}, 12: {}, 0: {done}", refused[0], refused[1]);
+    assert!(refused[0] > 1000 && refused[1] > 1000 && done > 1000);
+}
+
+/// "Bytes and entries past these sizes are never touched."
+fn check_sizes(before: &Machine, after: &Machine) {
+    let definition = &before.state.definition;
+    let store = store_size(definition);
+    let queue = before.capacity as usize;
+    let images = queue * definition.greatest_record_length();
+    assert!(!lent_too_short(
+        definition,
+        before.capacity,
+        &before.store,
+        &before.queue,
+        &before.images
+    ));
+    assert!(is_well_made(&before.state, before.capacity, &before.queue));
+    assert_eq!(before.store[store..], after.store[store..]);
+    assert_eq!(before.queue[queue..], after.queue[queue..]);
+    assert_eq!(before.images[images..], after.images[images..]);
+}
+
+/// An entry of the machine, with its image where that is not free.
+fn entries_with_images(machine: &Machine, of: impl Fn(u8) -> bool) -> Vec<(Entry, Vec<u8>)> {
+    let definition = &machine.state.definition;
+    let length = definition.greatest_record_length();
+    let mut found = Vec::new();
+    for (place, entry) in machine.queue[..machine.state.entries as usize]
+        .iter()
+        .enumerate()
+    {
+        let file = definition.file_index(entry.file).expect("defined");
+        let width = definition.files[file].record_length();
+        let image = match entry.changed && entry.existed {
+            true => machine.images[place * length..place * length + width].to_vec(),
+            false => vec![],
+        };
+        if of(entry.user) {
+            found.push((*entry, image));
+        }
+    }
+    found
+}
+
+/// Users who neither call nor are late keep their entries and images, in order, and the records they hold; records
+/// that nobody of the others holds change only at the ISN answered.
+fn check_others(before: &Machine, after: &Machine, call: &Call, answer: &Answer) {
+    let clock = before.state.clock.max(call.clock);
+    let is_late = |user: u8| before.state.users[usize::from(user) - 1].is_late(clock);
+    let bystander = |user: u8| user != call.user && !is_late(user);
+    assert_eq!(
+        entries_with_images(before, bystander),
+        entries_with_images(after, bystander)
+    );
+    let mut may_change: Vec<(u8, u16)> = before.queue[..before.state.entries as usize]
+        .iter()
+        .filter(|entry| !bystander(entry.user))
+        .map(|entry| (entry.file, entry.isn))
+        .collect();
+    may_change.push((call.file, answer.isn));
+    let kept = |machine: &Machine| {
+        let mut records = machine.records();
+        records.retain(|place, _| !may_change.contains(place));
+        records
+    };
+    assert_eq!(kept(before), kept(after), "{call:?} {answer:?}");
+}
