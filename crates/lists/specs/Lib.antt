@@ -1,3 +1,4 @@
 pub mod Tests
 pub mod Folds
 pub mod Rest
+pub mod Sift

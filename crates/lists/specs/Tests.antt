@@ -1,16 +1,14 @@
 -- Tests: a choice by a test, a number between two, and what `&&`, `||` and `not` say of their parts.
 -- Assumes nothing.
-use mathlib.Core.Path.{_≡_, refl, sym}
-use mathlib.Core.Bool.{Bool, true, false, not, _&&_, _||_}
+use mathlib.Core.Path.{_≡_, refl}
+use mathlib.Core.Bool.{Bool, true, false, _&&_, _||_}
+-- `cond b x y` is x where b holds, else y
+pub use mathlib.Core.Bool.{cond, and-false, or-true}
 use Prim.Native.Nat.{ℕ, _≤_, _<_}
 use native.Mathlib.Omega.{arith}
-use lib.Dec.{leb}
-use borrow.Author.Tests.{le-leb, lt-leb, leb-true}
-
--- the first where the test holds, else the second
-abbrev pub cond {ℓ} : {A : Type ℓ} → Bool → A → A → A
-cond true x y = x
-cond false x y = y
+use mathlib.Core.List.{List, [], _∷_}
+use lib.Dec.{T, leb, eqb, eqb-refl}
+use borrow.Author.Tests.{le-leb, lt-leb, leb-true, eqb-true}
 
 -- at least the first number and at most the second
 abbrev pub within : ℕ → ℕ → ℕ → Bool
@@ -45,14 +43,6 @@ pub or-right : (a b : Bool) → (a || b) ≡ false → b ≡ false
 or-right true b h = not-both true refl h
 or-right false b h = h
 
-pub and-false : (a : Bool) → (a && false) ≡ false
-and-false true = refl
-and-false false = refl
-
-pub or-true : (a : Bool) → (a || true) ≡ true
-or-true true = refl
-or-true false = refl
-
 -- ---- between two numbers
 module _ (lo hi n : ℕ) where
   pub within-inside : lo ≤ n → n ≤ hi → within lo hi n ≡ true
@@ -69,3 +59,29 @@ module _ (lo hi n : ℕ) where
 
   pub within-most : within lo hi n ≡ true → n ≤ hi
   within-most h = leb-true n hi (and-right (leb lo n) (leb n hi) h)
+
+-- ---- equal numbers, equal lists of numbers
+pub eqb-self : (n : ℕ) → eqb n n ≡ true
+eqb-self n = go (eqb n n) (eqb-refl n)
+  where
+    go : (b : Bool) → T b → b ≡ true
+    go true h = refl
+    go false h = absurd h
+
+pub eqb-sym : (m n : ℕ) → eqb m n ≡ false → eqb n m ≡ false
+eqb-sym m n h = go (eqb n m) refl
+  where
+    go : (b : Bool) → eqb n m ≡ b → b ≡ false
+    go true e = absurd (not-both (eqb m n) (rw (eqb-true n m e) (eqb-self m)) h)
+    go false e = refl
+
+-- two lists of numbers are the same
+abbrev pub eqbs : List ℕ → List ℕ → Bool
+eqbs [] [] = true
+eqbs [] (y ∷ ys) = false
+eqbs (x ∷ xs) [] = false
+eqbs (x ∷ xs) (y ∷ ys) = eqb x y && eqbs xs ys
+
+pub eqbs-self : (xs : List ℕ) → eqbs xs xs ≡ true
+eqbs-self [] = refl
+eqbs-self (x ∷ xs) = rw (eqb-self x) (eqbs-self xs)

@@ -1,0 +1,104 @@
+-- The elements that pass a test, in order, and what folds and maps make of them.
+-- Assumes nothing.
+use mathlib.Core.Path.{_≡_, refl, sym, _∙_, ap}
+use mathlib.Core.Bool.{Bool, true, false, _&&_, _||_, and-comm}
+use mathlib.Core.List.{List, [], _∷_, _++_, map}
+use Prim.Native.Nat.{ℕ}
+use lib.Dec.{eqb}
+use borrow.Author.Tests.{eqb-true}
+use Rattle.lists.specs.Tests.{not-both, and-left, and-right, or-left, or-right}
+use Rattle.lists.specs.Folds.{any, all}
+
+module _ {A : Type 0} where
+  abbrev pub keep : Bool → A → List A → List A
+  keep true x xs = x ∷ xs
+  keep false x xs = xs
+
+  abbrev pub sift : (A → Bool) → List A → List A
+  sift p [] = []
+  sift p (x ∷ xs) = keep (p x) x (sift p xs)
+
+  pub sift-keep : (p : A → Bool) (b : Bool) (x : A) (xs : List A) → sift p (keep b x xs) ≡ keep (b && p x) x (sift p xs)
+  sift-keep p true x xs = refl
+  sift-keep p false x xs = refl
+
+  pub sift-sift : (p r : A → Bool) (xs : List A) → sift p (sift r xs) ≡ sift (λ x. r x && p x) xs
+  sift-sift p r [] = refl
+  sift-sift p r (x ∷ xs) = sift-keep p (r x) x (sift r xs) ∙ ap (keep (r x && p x) x) (sift-sift p r xs)
+
+  pub sift-ext : (p r : A → Bool) → ((x : A) → p x ≡ r x) → (xs : List A) → sift p xs ≡ sift r xs
+  sift-ext p r h [] = refl
+  sift-ext p r h (x ∷ xs) = rw (h x) (ap (keep (r x) x) (sift-ext p r h xs))
+
+  pub sift-comm : (p r : A → Bool) (xs : List A) → sift p (sift r xs) ≡ sift r (sift p xs)
+  sift-comm p r xs = sift-sift p r xs ∙ sift-ext (λ x. r x && p x) (λ x. p x && r x) (λ x. and-comm (r x) (p x)) xs ∙ sym (sift-sift r p xs)
+
+  pub sift-map : (p : A → Bool) (f : A → A) → ((x : A) → p (f x) ≡ p x) → (xs : List A) → sift p (map f xs) ≡ map f (sift p xs)
+  sift-map p f h [] = refl
+  sift-map p f h (x ∷ xs) = rw (h x, sift-map p f h xs) (go (p x))
+    where
+      go : (b : Bool) → keep b (f x) (map f (sift p xs)) ≡ map f (keep b x (sift p xs))
+      go true = refl
+      go false = refl
+
+  pub sift-append : (p : A → Bool) (xs ys : List A) → sift p (xs ++ ys) ≡ sift p xs ++ sift p ys
+  sift-append p [] ys = refl
+  sift-append p (x ∷ xs) ys = rw (sift-append p xs ys) (go (p x))
+    where
+      go : (b : Bool) → keep b x (sift p xs ++ sift p ys) ≡ keep b x (sift p xs) ++ sift p ys
+      go true = refl
+      go false = refl
+
+  pub sift-none : (p : A → Bool) (xs : List A) → any p xs ≡ false → sift p xs ≡ []
+  sift-none p [] h = refl
+  sift-none p (x ∷ xs) h = rw (or-left (p x) (any p xs) h) (sift-none p xs (or-right (p x) (any p xs) h))
+
+  pub any-sift : (p r : A → Bool) (xs : List A) → any r (sift p xs) ≡ any (λ x. p x && r x) xs
+  any-sift p r [] = refl
+  any-sift p r (x ∷ xs) = go (p x) ∙ ap (λ b. (p x && r x) || b) (any-sift p r xs)
+    where
+      go : (b : Bool) → any r (keep b x (sift p xs)) ≡ ((b && r x) || any r (sift p xs))
+      go true = refl
+      go false = refl
+
+  pub all-sift : (p : A → Bool) (xs : List A) → all p (sift p xs) ≡ true
+  all-sift p [] = refl
+  all-sift p (x ∷ xs) = go (p x) refl (all-sift p xs)
+    where
+      go : (b : Bool) → p x ≡ b → all p (sift p xs) ≡ true → all p (keep b x (sift p xs)) ≡ true
+      go true e i = rw e i
+      go false e i = i
+
+  -- a test that holds of all holds of those that are left
+  pub all-keeps : (f p : A → Bool) (xs : List A) → all f xs ≡ true → all f (sift p xs) ≡ true
+  all-keeps f p [] h = refl
+  all-keeps f p (x ∷ xs) h = go (p x) (all-keeps f p xs (and-right (f x) (all f xs) h))
+    where
+      go : (b : Bool) → all f (sift p xs) ≡ true → all f (keep b x (sift p xs)) ≡ true
+      go true i = rw (and-left (f x) (all f xs) h) i
+      go false i = i
+
+  pub all-append : (f : A → Bool) (xs ys : List A) → all f xs ≡ true → all f ys ≡ true → all f (xs ++ ys) ≡ true
+  all-append f [] ys h i = i
+  all-append f (x ∷ xs) ys h i = rw (and-left (f x) (all f xs) h) (all-append f xs ys (and-right (f x) (all f xs) h) i)
+
+  pub all-map : (f : A → Bool) (g : A → A) → ((x : A) → f x ≡ true → f (g x) ≡ true) → (xs : List A) → all f xs ≡ true → all f (map g xs) ≡ true
+  all-map f g t [] h = refl
+  all-map f g t (x ∷ xs) h = rw (t x (and-left (f x) (all f xs) h)) (all-map f g t xs (and-right (f x) (all f xs) h))
+
+-- ---- a number that stands in a list
+pub any-elem : (p : ℕ → Bool) (d : ℕ) (xs : List ℕ) → any p xs ≡ false → any (eqb d) xs ≡ true → p d ≡ false
+any-elem p d [] h i = absurd (not-both false i refl)
+any-elem p d (x ∷ xs) h i = go (eqb d x) refl (any-elem p d xs (or-right (p x) (any p xs) h))
+  where
+    go : (b : Bool) → eqb d x ≡ b → (any (eqb d) xs ≡ true → p d ≡ false) → p d ≡ false
+    go true e f = rw (eqb-true d x e) (or-left (p x) (any p xs) h)
+    go false e f = f (rw e at i)
+
+pub elem-all : (p : ℕ → Bool) (d : ℕ) (xs : List ℕ) → all p xs ≡ true → any (eqb d) xs ≡ true → p d ≡ true
+elem-all p d [] h i = absurd (not-both false i refl)
+elem-all p d (x ∷ xs) h i = go (eqb d x) refl (elem-all p d xs (and-right (p x) (all p xs) h))
+  where
+    go : (b : Bool) → eqb d x ≡ b → (any (eqb d) xs ≡ true → p d ≡ true) → p d ≡ true
+    go true e f = rw (eqb-true d x e) (and-left (p x) (all p xs) h)
+    go false e f = f (rw e at i)
