@@ -1,26 +1,23 @@
 -- Laws of the layout: fields of a record, slots of a file and files of the store follow one another without overlap, and end where the whole ends;
 -- what `place` finds.
 -- Assumes nothing.
-use Prim.Native.Nat.{ℕ, zero, suc, _+_, _-_, _*_, _≤_, _<_}
+use Prim.Native.Nat.{ℕ, zero, suc, _+_, _-_, _≤_, _<_}
 use native.Mathlib.Nat.{mul-le-mul-right, le-of-suc-le-suc}
 use native.Mathlib.Omega.{arith}
 use mathlib.Core.Path.{_≡_, sym, ap, _∙_}
-use mathlib.Core.Bool.{Bool, true, false}
 use mathlib.Core.List.{List, [], _∷_}
 use mathlib.Core.Logic.{_⊎_, inl, inr}
 use lib.Dec.{eqb, ltb}
-use lib.ListN.{length, take, drop, getD}
+use lib.ListN.{length, take, getD}
 use lib.Seq.{getD-take, length-take-le, take-all}
 use borrow.Author.Tests.{ltb-true, ltb-false, eqb-true, eq-eqb}
 use Rattle.lists.specs.Tests.{Outcome, holds, fails, outcome}
 use Rattle.lists.specs.Folds.{total, total-take, total-next}
-use Rattle.definition.specs.Table.{no-field, beyond, field-at, file-at, field-count, fields-of, file-count, files-of}
+use Rattle.definition.specs.Table.{no-field, beyond, field-at, file-at, field-count, file-count, files-of}
 use Rattle.definition.specs.Shape.{FileShape, DefinitionShape}
 use Rattle.layout.specs.Layout.{field-length, field-offset, record-length, slot-length, slot-offset, file-size, file-offset, slot-start, store-size, seek, place}
-use Rattle.definition.specs.declared.Field.{Field}
 use Rattle.definition.specs.declared.File.{File}
 use Rattle.definition.specs.declared.Definition.{Definition}
-use Rattle.layout.specs.declared.Found.{Found}
 use Rattle.layout.specs.declared.Found.the-variants.{At, Nowhere}
 
 -- ---- one law for what lies in a row: a part and its element end before any later part, and within the whole

@@ -1,7 +1,7 @@
 -- What a loop over the first n elements of a list has left at i: `drop i (take n l)`. Its invariant speaks of that; `rest-more` is one turn,
 -- `rest-none` the end.
 -- Assumes nothing.
-use mathlib.Core.Path.{_≡_, refl, ap}
+use mathlib.Core.Path.{_≡_, ap}
 use mathlib.Core.List.{List, [], _∷_}
 use Prim.Native.Nat.{ℕ, zero, suc, _+_, _-_, _≤_, _<_, min}
 use native.Mathlib.Numerals.{add-one}

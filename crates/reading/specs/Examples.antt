@@ -2,18 +2,17 @@
 -- Assumes nothing.
 use Prim.Native.Nat.{ℕ, _+_}
 use mathlib.Core.Path.{_≡_, refl}
-use mathlib.Core.Bool.{Bool, true, false, _&&_}
+use mathlib.Core.Bool.{Bool, true}
 use mathlib.Core.List.{List, [], _∷_, _++_}
 use lib.Dec.{eqb}
-use lib.ListN.{set, replicate}
-use Rattle.lists.specs.Folds.{all, distinct, any, sound, total}
-use Rattle.definition.specs.Table.{no-field, no-file, no-definition}
+use lib.ListN.{set}
+use Rattle.lists.specs.Folds.{all}
+use Rattle.definition.specs.Table.{no-file, no-definition}
 use Rattle.layout.specs.Layout.{record-length, store-size}
 use Rattle.validity.specs.Validity.{name-valid, field-valid, file-valid, valid}
 use Rattle.reading.specs.Grammar.{format-of, option-of, file-item, field-item, item-of, read-from, read-table}
 use Rattle.definition.specs.declared.Format.the-variants.{Alphanumeric}
 use Rattle.definition.specs.declared.FieldOption.the-variants.{Plain, Unique}
-use Rattle.definition.specs.declared.Definition.{Definition}
 use Rattle.reading.specs.declared.End.{End}
 use Rattle.reading.specs.declared.End.the-variants.{At, Broken}
 

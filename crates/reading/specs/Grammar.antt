@@ -1,8 +1,8 @@
 -- Reading a definition table from bytes: "a row of items, each one byte of kind and then a body whose length the kind fixes".
 use Prim.Native.Nat.{ℕ, zero, suc, _+_, _*_, _-_}
-use mathlib.Core.Bool.{Bool, true, false, _&&_}
+use mathlib.Core.Bool.{Bool, _&&_}
 use mathlib.Core.List.{List}
-use lib.Dec.{eqb, leb, ltb}
+use lib.Dec.{eqb, ltb}
 use lib.ListN.{length, getD, drop, set}
 use Rattle.lists.specs.Tests.{cond, within}
 use Rattle.definition.specs.Table.{max-files, max-fields, beyond, no-file, no-definition}

@@ -15,7 +15,7 @@ use Rattle.lists.specs.Tests.{eqbs, eqb-self, eqbs-self, not-both, and-left, an
 use Rattle.lists.specs.Folds.{any, all}
 use Rattle.lists.specs.Sift.{all-keeps, any-elem}
 use Rattle.transactions.specs.Slots.{Bytes, Slot}
-use Rattle.transactions.specs.Machine.{Entry, Operation, hold, release, release-all, change, end, back-out, Ground, Laws, of-user, at-key, held-by-other, without, Machine, clash, taken, allowed, act, Journal, strike, log, replay, World, step, run, begin, back-outs, struck}
+use Rattle.transactions.specs.Machine.{Entry, Operation, hold, release, release-all, change, end, back-out, Ground, Laws, of-user, at-key, held-by-other, Machine, clash, taken, allowed, act, Journal, strike, log, replay, World, step, run, begin, back-outs, struck}
 use Rattle.transactions.specs.View.{Single, nobody, at, at-sift, hit, back, plus, less, single-hold, stay, back-stay}
 use Rattle.transactions.specs.Effect.{told, told-change, told-end, told-back-out, view, fitting, view-hold, view-release, view-release-all, view-end, view-back-out, view-other, view-change, view-still, single-change, fits-hold, fits-change, strike-stay}
 

@@ -8,7 +8,7 @@ use Prim.Native.Nat.{ℕ}
 use lib.Dec.{eqb}
 use borrow.Author.Tests.{eqb-true, not-false}
 use Rattle.lists.specs.Tests.{eqb-self, not-both, and-left, or-left}
-use Rattle.lists.specs.Folds.{any, all}
+use Rattle.lists.specs.Folds.{any}
 use Rattle.lists.specs.Sift.{keep, sift, sift-comm, sift-map, sift-append, sift-none, any-sift, all-sift}
 use Rattle.transactions.specs.Slots.{Slot}
 use Rattle.transactions.specs.Machine.{Entry, new-entry, of-user, at-key, held-by-other, with-hold, marked, mark, without}

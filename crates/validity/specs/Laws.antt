@@ -1,13 +1,12 @@
 -- What a valid definition has, for callers: its files' rules one by one, different numbers and names, and sizes.
 -- Assumes nothing.
-use Prim.Native.Nat.{ℕ, zero, suc, _+_, _*_, _≤_, _<_}
-use native.Mathlib.Nat.{mul-le-mul, not-suc-le-zero}
+use Prim.Native.Nat.{ℕ, _≤_, _<_}
+use native.Mathlib.Nat.{mul-le-mul}
 use native.Mathlib.Omega.{arith}
 use mathlib.Core.Path.{_≡_, refl, sym, ap}
-use mathlib.Core.Bool.{Bool, true, false, _&&_}
-use mathlib.Core.List.{List, [], _∷_}
-use lib.Dec.{eqb, ltb, leb}
-use lib.ListN.{length, take, getD, length-take}
+use mathlib.Core.Bool.{true, false}
+use lib.Dec.{ltb, leb}
+use lib.ListN.{length, length-take}
 use lib.Seq.{getD-take, length-take-le}
 use borrow.Author.Tests.{ltb-true, ltb-false, leb-true, eqb-false}
 use Rattle.lists.specs.Tests.{Outcome, holds, fails, outcome, within, within-least, within-most, and-left, and-right}

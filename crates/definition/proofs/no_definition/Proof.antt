@@ -3,9 +3,6 @@
 use borrow.Author.Needs.{needs}
 use Rattle.definition.proofs.no_definition.Statement.{statement}
 use Rattle.definition.proofs.no_definition.Tie as tie
-use Rattle.definition.proofs.no_definition.Reads as reads
-use Rattle.definition.proofs.no_definition.Lts as lts
-use Rattle.definition.proofs.no_file.Reads as no-file-reads
 
 no-file-requires : tie.Need-no-file-requires
 no-file-requires c κs = search needs

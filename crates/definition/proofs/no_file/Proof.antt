@@ -3,9 +3,6 @@
 use borrow.Author.Needs.{needs}
 use Rattle.definition.proofs.no_file.Statement.{statement}
 use Rattle.definition.proofs.no_file.Tie as tie
-use Rattle.definition.proofs.no_file.Reads as reads
-use Rattle.definition.proofs.no_file.Lts as lts
-use Rattle.definition.proofs.no_field.Reads as no-field-reads
 
 no-field-requires : tie.Need-no-field-requires
 no-field-requires c κs = search needs

@@ -3,8 +3,6 @@
 use borrow.Author.Tests.{eq-eqb, ne-eqb}
 use Rattle.definition.proofs.same_name.Statement.{statement}
 use Rattle.definition.proofs.same_name.Tie as tie
-use Rattle.definition.proofs.same_name.Reads as reads
-use Rattle.definition.proofs.same_name.Lts as lts
 
 returns : tie.Need-returns
 returns c = rw (eq-eqb _ _ (c .before .before .if1 .taken))

@@ -1,23 +1,18 @@
 -- `field_offset` meets its contract. The loop's invariant: the sum so far and the lengths that are left add up to the whole.
 -- Assumes nothing.
-use Prim.Native.Nat.{min}
-use Prim.Native.Nat.{ℕ, _+_, _-_, _*_, _≤_, _<_}
-use mathlib.Core.Path.{_≡_, sym, ap, _∙_}
+use Prim.Native.Nat.{min, _+_, _-_, _*_, _≤_}
+use mathlib.Core.Path.{_≡_, ap, _∙_}
 use native.Mathlib.Omega.{arith}
 use borrow.Author.Needs.{needs}
-use lib.ListN.{length, getD, take, drop}
+use lib.ListN.{take, drop}
 use Rattle.lists.specs.Folds.{total}
 use Rattle.lists.specs.Rest.{rest-none, take-min}
-use Rattle.definition.specs.Table.{fields-of, field-count}
+use Rattle.definition.specs.Table.{field-count}
 use Rattle.layout.specs.Layout.{field-length, field-offset}
 use Rattle.definition.specs.Shape.{field-turn}
 use Rattle.definition.proofs.Known.{file-known}
 use Rattle.layout.proofs.field_offset.Statement.{statement}
 use Rattle.layout.proofs.field_offset.Tie as tie
-use Rattle.layout.proofs.field_offset.Reads as reads
-use Rattle.layout.proofs.field_offset.Lts as lts
-use Rattle.layout.proofs.least.Reads as least-reads
-use Rattle.definition.proofs.field_count.Reads as field-count-reads
 
 abbrev Inv-loop : tie.InvT-loop
 Inv-loop k f n sum₀ i₀ sum i = (i ≤ n) × (sum ≤ 255 * i) × (sum + total field-length (drop i (take n (f .fields))) ≡ total field-length (take n (f .fields)))

@@ -1,7 +1,7 @@
 -- `file_offset` meets its contract, as `field_offset` does.
 -- Assumes nothing.
-use Prim.Native.Nat.{ℕ, _+_, _-_, _*_, _≤_, _<_, min}
-use mathlib.Core.Path.{_≡_, sym, ap, _∙_}
+use Prim.Native.Nat.{_+_, _-_, _*_, _≤_, min}
+use mathlib.Core.Path.{_≡_, ap, _∙_}
 use native.Mathlib.Omega.{arith}
 use borrow.Author.Needs.{needs}
 use lib.ListN.{take, drop}
@@ -14,11 +14,6 @@ use Rattle.layout.specs.Bounds.{file-size-most}
 use Rattle.definition.proofs.Known.{definition-known}
 use Rattle.layout.proofs.file_offset.Statement.{statement}
 use Rattle.layout.proofs.file_offset.Tie as tie
-use Rattle.layout.proofs.file_offset.Reads as reads
-use Rattle.layout.proofs.file_offset.Lts as lts
-use Rattle.layout.proofs.file_size.Reads as file-size-reads
-use Rattle.layout.proofs.least.Reads as least-reads
-use Rattle.definition.proofs.file_count.Reads as file-count-reads
 
 abbrev Inv-loop : tie.InvT-loop
 Inv-loop i d n sum₀ j₀ sum j = (j ≤ n) × (sum ≤ 267448335 * j) × (sum + total file-size (drop j (take n (d .files))) ≡ total file-size (take n (d .files)))

@@ -1,17 +1,12 @@
 -- `file_size` meets its contract.
 -- Assumes nothing.
 use native.Mathlib.Omega.{arith}
-use mathlib.Core.Path.{ap}
-use Prim.Native.Nat.{ℕ, _*_, _≤_}
+use Prim.Native.Nat.{_*_, _≤_}
 use Rattle.layout.specs.Bounds.{file-size-most}
-use Rattle.layout.specs.Layout.{file-size}
 use Rattle.definition.proofs.Known.{file-known}
 use borrow.Author.Needs.{needs}
 use Rattle.layout.proofs.file_size.Statement.{statement}
 use Rattle.layout.proofs.file_size.Tie as tie
-use Rattle.layout.proofs.file_size.Reads as reads
-use Rattle.layout.proofs.file_size.Lts as lts
-use Rattle.layout.proofs.slot_length.Reads as slot-length-reads
 
 cast-result : tie.Need-cast-result
 cast-result c = search needs

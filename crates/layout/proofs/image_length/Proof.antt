@@ -1,7 +1,7 @@
 -- `image_length` meets its contract. The loop's invariant: the greater of what was found and of what is left is the maximum.
 -- Assumes nothing.
-use Prim.Native.Nat.{ℕ, _+_, _-_, _≤_, _<_, max}
-use mathlib.Core.Path.{_≡_, ap, _∙_}
+use Prim.Native.Nat.{_-_, _≤_, max}
+use mathlib.Core.Path.{_≡_, ap}
 use mathlib.Core.Logic.{⊎-elim}
 use native.Mathlib.Omega.{arith}
 use borrow.Author.Needs.{needs}
@@ -13,10 +13,6 @@ use Rattle.definition.specs.Shape.{file-next, no-file-left}
 use Rattle.definition.proofs.Known.{definition-known}
 use Rattle.layout.proofs.image_length.Statement.{statement}
 use Rattle.layout.proofs.image_length.Tie as tie
-use Rattle.layout.proofs.image_length.Reads as reads
-use Rattle.layout.proofs.image_length.Lts as lts
-use Rattle.layout.proofs.record_length.Reads as record-length-reads
-use Rattle.definition.proofs.file_count.Reads as file-count-reads
 
 abbrev Inv-loop : tie.InvT-loop
 Inv-loop d n most₀ i₀ most i = (i ≤ n) × (max most (maximum record-length (drop i (files-of d))) ≡ maximum record-length (files-of d))

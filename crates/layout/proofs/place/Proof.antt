@@ -1,7 +1,7 @@
 -- `place` meets its contract. The loop's invariant: what is sought in the whole table is sought from here on.
 -- Assumes nothing.
-use Prim.Native.Nat.{ℕ, _+_, _-_, _≤_, _<_}
-use mathlib.Core.Path.{_≡_, sym, ap, _∙_}
+use Prim.Native.Nat.{_-_, _≤_}
+use mathlib.Core.Path.{_≡_, sym, _∙_}
 use native.Mathlib.Omega.{arith}
 use borrow.Author.Needs.{needs}
 use borrow.Author.Tests.{eq-eqb, ne-eqb}
@@ -12,9 +12,6 @@ use Rattle.layout.specs.Layout.{seek, place}
 use Rattle.definition.proofs.Known.{definition-known}
 use Rattle.layout.proofs.place.Statement.{statement}
 use Rattle.layout.proofs.place.Tie as tie
-use Rattle.layout.proofs.place.Reads as reads
-use Rattle.layout.proofs.place.Lts as lts
-use Rattle.definition.proofs.file_count.Reads as file-count-reads
 
 abbrev Inv-loop : tie.InvT-loop
 Inv-loop number d n i₀ i = (i ≤ n) × (seek number (files-of d) 0 ≡ seek number (drop i (files-of d)) i)

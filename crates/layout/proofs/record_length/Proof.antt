@@ -10,9 +10,6 @@ use Rattle.layout.specs.Layout.{field-length, field-offset, record-lengt
 use borrow.Author.Needs.{needs}
 use Rattle.layout.proofs.record_length.Statement.{statement}
 use Rattle.layout.proofs.record_length.Tie as tie
-use Rattle.layout.proofs.record_length.Reads as reads
-use Rattle.layout.proofs.record_length.Lts as lts
-use Rattle.layout.proofs.field_offset.Reads as field-offset-reads
 
 field-offset-requires : tie.Need-field-offset-requires
 field-offset-requires c κs = search needs

@@ -6,9 +6,6 @@ use Rattle.definition.proofs.Known.{file-known}
 use borrow.Author.Needs.{needs}
 use Rattle.layout.proofs.slot_length.Statement.{statement}
 use Rattle.layout.proofs.slot_length.Tie as tie
-use Rattle.layout.proofs.slot_length.Reads as reads
-use Rattle.layout.proofs.slot_length.Lts as lts
-use Rattle.layout.proofs.record_length.Reads as record-length-reads
 
 record-length-requires : tie.Need-record-length-requires
 record-length-requires c κs = search needs

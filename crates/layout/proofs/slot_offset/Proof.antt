@@ -2,17 +2,14 @@
 -- Assumes nothing.
 use native.Mathlib.Omega.{arith}
 use mathlib.Core.Path.{_≡_}
-use Prim.Native.Nat.{ℕ, _-_, _*_, _≤_}
+use Prim.Native.Nat.{_-_, _≤_}
 use native.Mathlib.Nat.{mul-le-mul, zero-mul}
 use Rattle.layout.specs.Bounds.{record-length-most}
-use Rattle.layout.specs.Layout.{slot-length, slot-offset}
+use Rattle.layout.specs.Layout.{slot-length}
 use Rattle.definition.proofs.Known.{file-known}
 use borrow.Author.Needs.{needs}
 use Rattle.layout.proofs.slot_offset.Statement.{statement}
 use Rattle.layout.proofs.slot_offset.Tie as tie
-use Rattle.layout.proofs.slot_offset.Reads as reads
-use Rattle.layout.proofs.slot_offset.Lts as lts
-use Rattle.layout.proofs.slot_length.Reads as slot-length-reads
 
 returns : tie.Need-returns
 returns c =

@@ -10,9 +10,6 @@ use Rattle.layout.specs.Layout.{file-size, file-offset, store-size}
 use borrow.Author.Needs.{needs}
 use Rattle.layout.proofs.store_size.Statement.{statement}
 use Rattle.layout.proofs.store_size.Tie as tie
-use Rattle.layout.proofs.store_size.Reads as reads
-use Rattle.layout.proofs.store_size.Lts as lts
-use Rattle.layout.proofs.file_offset.Reads as file-offset-reads
 
 file-offset-requires : tie.Need-file-offset-requires
 file-offset-requires c κs = search needs

@@ -1,8 +1,7 @@
 -- `add_field` meets its contract: there is room, so there is a last file and it has fewer than 16 fields.
 -- Assumes nothing.
-use mathlib.Core.Path.{refl}
+use mathlib.Core.Path.{refl, _≡_}
 use native.Mathlib.Omega.{arith}
-use mathlib.Core.Path.{_≡_}
 use mathlib.Core.Bool.{true}
 use Prim.Native.Nat.{_≤_, _<_}
 use lib.Dec.{ltb}
@@ -13,8 +12,6 @@ use Rattle.definition.specs.declared.Definition.{Definition}
 use borrow.Author.Needs.{needs}
 use Rattle.reading.proofs.add_field.Statement.{statement}
 use Rattle.reading.proofs.add_field.Tie as tie
-use Rattle.reading.proofs.add_field.Reads as reads
-use Rattle.reading.proofs.add_field.Lts as lts
 
 room : (d : Definition) → room-for-field d ≡ true → (1 ≤ d .count) × (d .count ≤ 16) × (last-file d .count < 16)
 room d h =

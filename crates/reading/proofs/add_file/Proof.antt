@@ -5,9 +5,6 @@ use borrow.Author.Tests.{ltb-true}
 use borrow.Author.Needs.{needs}
 use Rattle.reading.proofs.add_file.Statement.{statement}
 use Rattle.reading.proofs.add_file.Tie as tie
-use Rattle.reading.proofs.add_file.Reads as reads
-use Rattle.reading.proofs.add_file.Lts as lts
-use Rattle.definition.proofs.no_file.Reads as no-file-reads
 
 no-file-requires : tie.Need-no-file-requires
 no-file-requires c κs = search needs

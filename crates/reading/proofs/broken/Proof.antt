@@ -3,9 +3,6 @@
 use borrow.Author.Needs.{needs}
 use Rattle.reading.proofs.broken.Statement.{statement}
 use Rattle.reading.proofs.broken.Tie as tie
-use Rattle.reading.proofs.broken.Reads as reads
-use Rattle.reading.proofs.broken.Lts as lts
-use Rattle.definition.proofs.no_definition.Reads as no-definition-reads
 
 no-definition-requires : tie.Need-no-definition-requires
 no-definition-requires c κs = search needs

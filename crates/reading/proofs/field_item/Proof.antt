@@ -11,10 +11,6 @@ use Rattle.reading.specs.declared.OptionByte.{OptionByte}
 use borrow.Author.Needs.{needs}
 use Rattle.reading.proofs.field_item.Statement.{statement}
 use Rattle.reading.proofs.field_item.Tie as tie
-use Rattle.reading.proofs.field_item.Reads as reads
-use Rattle.reading.proofs.field_item.Lts as lts
-use Rattle.reading.proofs.format_of.Reads as format-of-reads
-use Rattle.reading.proofs.option_of.Reads as option-of-reads
 
 typed : (body : List ℕ) → 5 ≤ length body → (f : FormatByte) (o : OptionByte) → format-of (getD body 3 0) ≡ f → option-of (getD body 4 0) ≡ o → field-typed body f o ≡ field-item body
 unfolding field-item

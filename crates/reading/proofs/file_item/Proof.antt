@@ -6,8 +6,6 @@ use Rattle.reading.specs.Grammar.{file-item}
 use borrow.Author.Needs.{needs}
 use Rattle.reading.proofs.file_item.Statement.{statement}
 use Rattle.reading.proofs.file_item.Tie as tie
-use Rattle.reading.proofs.file_item.Reads as reads
-use Rattle.reading.proofs.file_item.Lts as lts
 
 returns : tie.Need-returns
 unfolding file-item

@@ -1,7 +1,7 @@
 -- `first_item` meets its contract: each arm's kind computes to its case of `item-of`.
 -- Assumes nothing.
 use Rattle.lists.specs.Rest.{part-to-end}
-use mathlib.Core.Path.{_≡_, sym, ap, _∙_}
+use mathlib.Core.Path.{_≡_, ap, _∙_}
 use mathlib.Core.List.{List}
 use Prim.Native.Nat.{ℕ}
 use lib.ListN.{length, getD, drop}
@@ -14,10 +14,6 @@ use Rattle.reading.specs.declared.Item.the-variants.{End, Broken}
 use borrow.Author.Needs.{needs}
 use Rattle.reading.proofs.first_item.Statement.{statement}
 use Rattle.reading.proofs.first_item.Tie as tie
-use Rattle.reading.proofs.first_item.Reads as reads
-use Rattle.reading.proofs.first_item.Lts as lts
-use Rattle.reading.proofs.field_item.Reads as field-item-reads
-use Rattle.reading.proofs.file_item.Reads as file-item-reads
 
 -- the item that begins with this kind
 abbrev of-kind : ℕ → List ℕ → Item

@@ -5,8 +5,6 @@ use borrow.Author.Tests.{ne-eqb}
 use Rattle.reading.specs.Grammar.{format-of}
 use Rattle.reading.proofs.format_of.Statement.{statement}
 use Rattle.reading.proofs.format_of.Tie as tie
-use Rattle.reading.proofs.format_of.Reads as reads
-use Rattle.reading.proofs.format_of.Lts as lts
 
 returns : tie.Need-returns
 unfolding format-of

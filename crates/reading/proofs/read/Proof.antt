@@ -1,7 +1,7 @@
 -- `read` meets its contract. The loop's invariant: reading goes on from here to the same end.
 -- Assumes nothing.
-use Prim.Native.Nat.{ℕ, _-_}
-use mathlib.Core.Path.{_≡_, sym, ap, _∙_}
+use Prim.Native.Nat.{_-_}
+use mathlib.Core.Path.{sym, ap, _∙_}
 use native.Mathlib.Omega.{arith}
 use borrow.Author.Needs.{needs}
 use borrow.Author.Tests.{lt-ltb, le-ltb, not-true, not-false}
@@ -12,15 +12,6 @@ use Rattle.reading.proofs.read.Proof.Unread.{Pending, start, past, at-b
 mod Unread
 use Rattle.reading.proofs.read.Statement.{statement}
 use Rattle.reading.proofs.read.Tie as tie
-use Rattle.reading.proofs.read.Reads as reads
-use Rattle.reading.proofs.read.Lts as lts
-use Rattle.reading.proofs.add_field.Reads as add-field-reads
-use Rattle.reading.proofs.add_file.Reads as add-file-reads
-use Rattle.reading.proofs.broken.Reads as broken-reads
-use Rattle.reading.proofs.first_item.Reads as first-item-reads
-use Rattle.reading.proofs.room_for_field.Reads as room-for-field-reads
-use Rattle.definition.proofs.no_definition.Reads as no-definition-reads
-use Rattle.validity.proofs.valid.Reads as valid-reads
 
 abbrev Inv-loop : tie.InvT-loop
 Inv-loop bytes d₀ at₀ d at = Pending bytes at d

@@ -4,8 +4,6 @@ use Rattle.lists.specs.Tests.{within-inside, within-below, within-above}
 use borrow.Author.Needs.{needs}
 use Rattle.reading.proofs.room_for_field.Statement.{statement}
 use Rattle.reading.proofs.room_for_field.Tie as tie
-use Rattle.reading.proofs.room_for_field.Reads as reads
-use Rattle.reading.proofs.room_for_field.Lts as lts
 
 cast-n : tie.Need-cast-n
 cast-n c = search needs

@@ -1,16 +1,11 @@
 -- `field_valid` meets its contract.
 -- Assumes nothing.
-use mathlib.Core.Path.{_≡_, sym, ap, _∙_}
+use mathlib.Core.Path.{sym, _∙_}
 use borrow.Author.Tests.{not-true, not-false}
 use Rattle.validity.specs.Validity.{field-valid}
 use borrow.Author.Needs.{needs}
 use Rattle.validity.proofs.field_valid.Statement.{statement}
 use Rattle.validity.proofs.field_valid.Tie as tie
-use Rattle.validity.proofs.field_valid.Reads as reads
-use Rattle.validity.proofs.field_valid.Lts as lts
-use Rattle.validity.proofs.max_length.Reads as max-length-reads
-use Rattle.validity.proofs.name_valid.Reads as name-valid-reads
-use Rattle.validity.proofs.within.Reads as within-reads
 
 name-valid-requires : tie.Need-name-valid-requires
 name-valid-requires c κs = search needs

@@ -1,7 +1,7 @@
 -- `fields_valid` meets its contract. The loop's invariant: the fields are sound where those from here on are.
 -- Assumes nothing.
-use Prim.Native.Nat.{ℕ, _+_, _-_, _≤_, _<_}
-use mathlib.Core.Path.{_≡_, sym, ap, _∙_}
+use Prim.Native.Nat.{_+_, _-_, _≤_}
+use mathlib.Core.Path.{_≡_, sym, _∙_}
 use native.Mathlib.Omega.{arith}
 use borrow.Author.Needs.{needs}
 use lib.ListN.{drop}
@@ -13,11 +13,6 @@ use Rattle.definition.specs.Shape.{field-next, no-field-left}
 use Rattle.definition.proofs.Known.{file-known}
 use Rattle.validity.proofs.fields_valid.Statement.{statement}
 use Rattle.validity.proofs.fields_valid.Tie as tie
-use Rattle.validity.proofs.fields_valid.Reads as reads
-use Rattle.validity.proofs.fields_valid.Lts as lts
-use Rattle.definition.proofs.field_count.Reads as field-count-reads
-use Rattle.validity.proofs.field_valid.Reads as field-valid-reads
-use Rattle.validity.proofs.named_later.Reads as named-later-reads
 
 abbrev Inv-loop : tie.InvT-loop
 Inv-loop f n i₀ i = (i ≤ n) × (sound field-valid named-alike (fields-of f) ≡ sound field-valid named-alike (drop i (fields-of f)))

@@ -1,16 +1,11 @@
 -- `file_valid` meets its contract: each test that led to a `return` decides its part of `file-valid`.
 -- Assumes nothing.
-use mathlib.Core.Path.{_≡_, sym, ap, _∙_}
+use mathlib.Core.Path.{sym, _∙_}
 use borrow.Author.Tests.{not-true, not-false}
 use Rattle.validity.specs.Validity.{file-valid}
 use borrow.Author.Needs.{needs}
 use Rattle.validity.proofs.file_valid.Statement.{statement}
 use Rattle.validity.proofs.file_valid.Tie as tie
-use Rattle.validity.proofs.file_valid.Reads as reads
-use Rattle.validity.proofs.file_valid.Lts as lts
-use Rattle.layout.proofs.record_length.Reads as record-length-reads
-use Rattle.validity.proofs.fields_valid.Reads as fields-valid-reads
-use Rattle.validity.proofs.within.Reads as within-reads
 
 cast-within : tie.Need-cast-within
 cast-within c = search needs

@@ -1,7 +1,7 @@
 -- `files_valid` meets its contract, as `fields_valid` does.
 -- Assumes nothing.
-use Prim.Native.Nat.{ℕ, _+_, _-_, _≤_, _<_}
-use mathlib.Core.Path.{_≡_, sym, ap, _∙_}
+use Prim.Native.Nat.{_+_, _-_, _≤_}
+use mathlib.Core.Path.{_≡_, sym, _∙_}
 use native.Mathlib.Omega.{arith}
 use borrow.Author.Needs.{needs}
 use borrow.Author.Tests.{not-true, not-false}
@@ -13,11 +13,6 @@ use Rattle.definition.specs.Shape.{file-next, no-file-left}
 use Rattle.definition.proofs.Known.{definition-known}
 use Rattle.validity.proofs.files_valid.Statement.{statement}
 use Rattle.validity.proofs.files_valid.Tie as tie
-use Rattle.validity.proofs.files_valid.Reads as reads
-use Rattle.validity.proofs.files_valid.Lts as lts
-use Rattle.definition.proofs.file_count.Reads as file-count-reads
-use Rattle.validity.proofs.file_valid.Reads as file-valid-reads
-use Rattle.validity.proofs.numbered_later.Reads as numbered-later-reads
 
 abbrev Inv-loop : tie.InvT-loop
 Inv-loop d n i₀ i = (i ≤ n) × (sound file-valid numbered-alike (files-of d) ≡ sound file-valid numbered-alike (drop i (files-of d)))

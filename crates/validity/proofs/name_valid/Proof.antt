@@ -6,8 +6,6 @@ use Rattle.lists.specs.Tests.{within-inside, within-below, within-above, or-tru
 use Rattle.validity.specs.Validity.{capital, name-valid}
 use Rattle.validity.proofs.name_valid.Statement.{statement}
 use Rattle.validity.proofs.name_valid.Tie as tie
-use Rattle.validity.proofs.name_valid.Reads as reads
-use Rattle.validity.proofs.name_valid.Lts as lts
 
 returns : tie.Need-returns
 unfolding name-valid

@@ -1,7 +1,7 @@
 -- `named_later` meets its contract. The loop's invariant: what is sought among the later fields is sought from here on.
 -- Assumes nothing.
-use Prim.Native.Nat.{ℕ, _+_, _-_, _≤_, _<_}
-use mathlib.Core.Path.{_≡_, sym, ap, _∙_}
+use Prim.Native.Nat.{_+_, _-_, _≤_}
+use mathlib.Core.Path.{_≡_, sym, _∙_}
 use native.Mathlib.Omega.{arith}
 use borrow.Author.Needs.{needs}
 use lib.ListN.{drop}
@@ -11,10 +11,6 @@ use Rattle.definition.specs.Shape.{field-next, no-field-left}
 use Rattle.definition.proofs.Known.{file-known}
 use Rattle.validity.proofs.named_later.Statement.{statement}
 use Rattle.validity.proofs.named_later.Tie as tie
-use Rattle.validity.proofs.named_later.Reads as reads
-use Rattle.validity.proofs.named_later.Lts as lts
-use Rattle.definition.proofs.field_count.Reads as field-count-reads
-use Rattle.definition.proofs.same_name.Reads as same-name-reads
 
 abbrev Inv-loop : tie.InvT-loop
 Inv-loop i f n g j₀ j = (i + 1 ≤ j) × (j ≤ n) × (any (named-alike g) (drop (i + 1) (fields-of f)) ≡ any (named-alike g) (drop j (fields-of f)))

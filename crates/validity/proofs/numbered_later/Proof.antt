@@ -1,7 +1,7 @@
 -- `numbered_later` meets its contract, as `named_later` does.
 -- Assumes nothing.
-use Prim.Native.Nat.{ℕ, _+_, _-_, _≤_, _<_}
-use mathlib.Core.Path.{_≡_, sym, ap, _∙_}
+use Prim.Native.Nat.{_+_, _-_, _≤_}
+use mathlib.Core.Path.{_≡_, sym, _∙_}
 use native.Mathlib.Omega.{arith}
 use borrow.Author.Needs.{needs}
 use borrow.Author.Tests.{eq-eqb, ne-eqb}
@@ -13,9 +13,6 @@ use Rattle.definition.specs.Shape.{file-next, no-file-left}
 use Rattle.definition.proofs.Known.{definition-known}
 use Rattle.validity.proofs.numbered_later.Statement.{statement}
 use Rattle.validity.proofs.numbered_later.Tie as tie
-use Rattle.validity.proofs.numbered_later.Reads as reads
-use Rattle.validity.proofs.numbered_later.Lts as lts
-use Rattle.definition.proofs.file_count.Reads as file-count-reads
 
 abbrev Inv-loop : tie.InvT-loop
 Inv-loop i d n number j₀ j = (i + 1 ≤ j) × (j ≤ n) × (any (λ g. eqb number (g .number)) (drop (i + 1) (files-of d)) ≡ any (λ g. eqb number (g .number)) (drop j (files-of d)))

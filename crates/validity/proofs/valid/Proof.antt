@@ -1,15 +1,11 @@
 -- `valid` meets its contract.
 -- Assumes nothing.
-use mathlib.Core.Path.{_≡_, sym, ap, _∙_}
+use mathlib.Core.Path.{sym, _∙_}
 use borrow.Author.Tests.{not-true, not-false}
 use Rattle.validity.specs.Validity.{valid}
 use borrow.Author.Needs.{needs}
 use Rattle.validity.proofs.valid.Statement.{statement}
 use Rattle.validity.proofs.valid.Tie as tie
-use Rattle.validity.proofs.valid.Reads as reads
-use Rattle.validity.proofs.valid.Lts as lts
-use Rattle.validity.proofs.files_valid.Reads as files-valid-reads
-use Rattle.validity.proofs.within.Reads as within-reads
 
 cast-within : tie.Need-cast-within
 cast-within c = search needs

@@ -3,8 +3,6 @@
 use borrow.Author.Tests.{le-leb, lt-leb}
 use Rattle.validity.proofs.within.Statement.{statement}
 use Rattle.validity.proofs.within.Tie as tie
-use Rattle.validity.proofs.within.Reads as reads
-use Rattle.validity.proofs.within.Lts as lts
 
 returns : tie.Need-returns
 returns c = rw (le-leb _ _ (c .if1 .taken))
