@@ -1,0 +1,5 @@
+pub mod Values
+pub mod Lists
+pub mod Laws
+pub mod Numbers
+pub mod Examples

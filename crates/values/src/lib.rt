@@ -1,0 +1,210 @@
+// One value of a field, by the field's format: whether its bytes are allowed, their stored form, and the null value.
+ghost use mathlib.Core.Path.{_≡_};
+ghost use lib.Dec.{eqb};
+ghost use lib.ListN.{length, replicate};
+ghost use Rattle.lists.specs.Tests.{cond};
+ghost use Rattle.lists.specs.Folds.{all, any};
+ghost use Rattle.values.specs.Values.{unpacked-digit, digit, positive-sign, negative-sign, not-zero, halves, stored-sign, allowed, stored, null-byte, null-value};
+ghost use Rattle.definition.specs.declared.Format.the-variants.{Packed};
+use definition::Format;
+
+// The greatest digit in a half byte, and the signs with which packed bytes are stored.
+const MAX_DIGIT: u8 = 9;
+
+const POSITIVE: u8 = 0xF;
+
+const NEGATIVE: u8 = 0xD;
+
+fn positive_sign(half: u8) -> bool
+    ensures { λ r. ⌜ r ≡ positive-sign half ⌝ }
+{
+    match half {
+        0xC => true,
+        0xF => true,
+        _ => false,
+    }
+}
+
+fn negative_sign(half: u8) -> bool
+    ensures { λ r. ⌜ r ≡ negative-sign half ⌝ }
+{
+    half == 0xD
+}
+
+fn unpacked_allowed(value: &[u8]) -> bool
+    ensures { λ r. ⌜ r ≡ all unpacked-digit (now (value .entry)) ⌝ }
+{
+    let mut i = 0;
+    while i < value.len() {
+        let byte = value[i];
+        if byte < b'0' {
+            return false;
+        }
+        if byte > b'9' {
+            return false;
+        }
+        i += 1;
+    }
+    true
+}
+
+// Whether both half bytes of each byte are digits.
+fn halves_allowed(bytes: &[u8]) -> bool
+    ensures { λ r. ⌜ r ≡ all digit (halves (now (bytes .entry))) ⌝ }
+{
+    let mut i = 0;
+    while i < bytes.len() {
+        let byte = bytes[i];
+        if byte / 16 > MAX_DIGIT {
+            return false;
+        }
+        if byte % 16 > MAX_DIGIT {
+            return false;
+        }
+        i += 1;
+    }
+    true
+}
+
+fn packed_allowed(value: &[u8]) -> bool
+    ensures { λ r. ⌜ r ≡ allowed Packed (now (value .entry)) ⌝ }
+{
+    let n = value.len();
+    if n == 0 {
+        return false;
+    }
+    if !halves_allowed(&value[..n - 1]) {
+        return false;
+    }
+    let last = value[n - 1];
+    if last / 16 > MAX_DIGIT {
+        return false;
+    }
+    if positive_sign(last % 16) {
+        return true;
+    }
+    negative_sign(last % 16)
+}
+
+// Whether the value has no digit and no sign that its format does not allow.
+pub fn allowed(format: Format, value: &[u8]) -> bool
+    ensures { λ r. ⌜ r ≡ allowed format (now (value .entry)) ⌝ }
+{
+    match format {
+        Format::Alphanumeric => true,
+        Format::Binary => true,
+        Format::Unpacked => unpacked_allowed(value),
+        Format::Packed => packed_allowed(value),
+    }
+}
+
+// Whether a half byte is not zero.
+fn any_not_zero(bytes: &[u8]) -> bool
+    ensures { λ r. ⌜ r ≡ any not-zero (halves (now (bytes .entry))) ⌝ }
+{
+    let mut i = 0;
+    while i < bytes.len() {
+        if bytes[i] != 0 {
+            return true;
+        }
+        i += 1;
+    }
+    false
+}
+
+// The sign half byte with which packed bytes are stored.
+fn stored_sign(value: &[u8]) -> u8
+    ensures { λ r. ⌜ r ≡ stored-sign (now (value .entry)) ⌝ }
+{
+    let n = value.len();
+    if n == 0 {
+        return POSITIVE;
+    }
+    let last = value[n - 1];
+    if !negative_sign(last % 16) {
+        return POSITIVE;
+    }
+    if last / 16 != 0 {
+        return NEGATIVE;
+    }
+    if any_not_zero(&value[..n - 1]) {
+        return NEGATIVE;
+    }
+    POSITIVE
+}
+
+fn put_sign(value: &mut [u8])
+    ensures { λ _. ⌜ now (value .exit) ≡ stored Packed (now (value .entry)) ⌝ }
+{
+    let n = value.len();
+    if n == 0 {
+        return;
+    }
+    let sign = stored_sign(value);
+    let last = value[n - 1];
+    value[n - 1] = last / 16 * 16 + sign;
+}
+
+// Puts a value into stored form where it lies.
+fn put_form(format: Format, value: &mut [u8])
+    ensures { λ _. ⌜ now (value .exit) ≡ stored format (now (value .entry)) ⌝ }
+{
+    match format {
+        Format::Alphanumeric => {}
+        Format::Binary => {}
+        Format::Unpacked => {}
+        Format::Packed => put_sign(value),
+    }
+}
+
+fn copy<'a, 'b>(from: &'a [u8], to: &'b mut [u8])
+    requires { ⌜ length (now from) ≡ length (now to) ⌝ }
+    ensures { λ _. ⌜ now (to .exit) ≡ now (from .entry) ⌝ }
+{
+    let mut i = 0;
+    while i < to.len() {
+        to[i] = from[i];
+        i += 1;
+    }
+}
+
+// Writes the stored form of a value. Where the lengths differ nothing is written.
+pub fn put_stored<'a, 'b>(format: Format, value: &'a [u8], to: &'b mut [u8])
+    ensures { λ _. ⌜ now (to .exit) ≡ cond (eqb (length (now (value .entry))) (length (now (to .entry)))) (stored format (now (value .entry))) (now (to .entry)) ⌝ }
+{
+    if value.len() != to.len() {
+        return;
+    }
+    copy(value, to);
+    put_form(format, to);
+}
+
+fn fill(to: &mut [u8], byte: u8)
+    ensures { λ _. ⌜ now (to .exit) ≡ replicate (length (now (to .entry))) byte ⌝ }
+{
+    let mut i = 0;
+    while i < to.len() {
+        to[i] = byte;
+        i += 1;
+    }
+}
+
+fn null_byte(format: Format) -> u8
+    ensures { λ r. ⌜ r ≡ null-byte format ⌝ }
+{
+    match format {
+        Format::Alphanumeric => b' ',
+        Format::Binary => 0,
+        Format::Unpacked => b'0',
+        Format::Packed => 0,
+    }
+}
+
+// Writes the null value of the format.
+pub fn put_null(format: Format, to: &mut [u8])
+    ensures { λ _. ⌜ now (to .exit) ≡ null-value format (length (now (to .entry))) ⌝ }
+{
+    let byte = null_byte(format);
+    fill(to, byte);
+    put_form(format, to);
+}
