@@ -1,0 +1,7 @@
+pub mod Lists
+pub mod Store
+pub mod Slots
+pub mod Laws
+pub mod Finding
+pub mod Files
+pub mod Examples

@@ -1,0 +1,105 @@
+-- Records in the part of the store that belongs to one file (document 01, 'Store': "files in table order, ISNs rising; each ISN has one byte,
+-- 1 for a record and any other for none, then the width").
+use Prim.Native.Nat.{ℕ, _+_, _-_, _*_, _/_, min}
+use mathlib.Core.Bool.{Bool, not, _&&_}
+use mathlib.Core.List.{List, [], _∷_}
+use mathlib.Core.Option.{Option, none, some}
+use lib.Dec.{eqb, ltb}
+use lib.ListN.{length, getD, set}
+use Rattle.lists.specs.Tests.{cond, within}
+use Rattle.lists.specs.Folds.{any}
+use Rattle.definition.specs.Table.{field-at, field-count, file-at}
+use Rattle.definition.specs.declared.File.{File}
+use Rattle.definition.specs.declared.Definition.{Definition}
+use Rattle.layout.specs.Layout.{field-length, field-offset, record-length, slot-length, slot-offset, file-size, file-offset}
+use Rattle.store.specs.Lists.{from-to, same, piece, patch}
+use Rattle.store.specs.declared.Occupied.{Occupied}
+use Rattle.store.specs.declared.Occupied.the-variants.{At, Nowhere}
+
+-- ---- a row of slots of one size, the first of them at the front of a list of bytes
+-- whether the slot, of those up to the last, has a record
+abbrev pub recorded : ℕ → ℕ → List ℕ → ℕ → Bool
+recorded last size part isn = within 1 last isn && eqb (getD part ((isn - 1) * size) 0) 1
+
+-- the first of the ISNs that passes the test
+abbrev pub first-of : (ℕ → Bool) → List ℕ → Occupied
+first-of p [] = Nowhere
+first-of p (isn ∷ isns) = cond (p isn) (At isn) (first-of p isns)
+
+-- whether the slot that begins at a place has a record with the value at an offset
+abbrev pub has-field : List ℕ → ℕ → ℕ → List ℕ → Bool
+has-field part at offset value = eqb (getD part at 0) 1 && same (piece (at + 1 + offset) (length value) part) value
+
+-- whether the slot is another than the given one, and has a record with the value at an offset
+abbrev pub held : ℕ → ℕ → List ℕ → ℕ → ℕ → List ℕ → ℕ → Bool
+held last size part isn offset value other =
+    not (eqb other isn) && (recorded last size part other && same (piece ((other - 1) * size + 1 + offset) (length value) part) value)
+
+-- 0 in the first byte of each of the slots
+abbrev pub cleared : ℕ → List ℕ → List ℕ → List ℕ
+cleared size [] part = part
+cleared size (isn ∷ isns) part = cleared size isns (set part ((isn - 1) * size) 0)
+
+-- ---- a file's slots
+-- how many lie whole within so many bytes: those of ISN 1 to this
+abbrev pub slot-count : File → ℕ → ℕ
+slot-count f bytes = min (f .«max_isn») (bytes / slot-length f)
+
+-- the ISN is 1 to the highest, and its slot ends within the part
+unfoldable pub slot-fits : File → List ℕ → ℕ → Bool
+slot-fits f part isn = within 1 (slot-count f (length part)) isn
+
+-- the ISNs from the given one on whose slots lie within the part
+abbrev pub isns-from : File → List ℕ → ℕ → List ℕ
+isns-from f part from = from-to from (slot-count f (length part))
+
+-- "1 for a record and any other for none"
+unfoldable pub has-record : File → List ℕ → ℕ → Bool
+has-record f part isn = recorded (slot-count f (length part)) (slot-length f) part isn
+
+-- the bytes behind the first
+abbrev pub record-of : File → List ℕ → ℕ → List ℕ
+record-of f part isn = piece (slot-offset f isn + 1) (record-length f) part
+
+unfoldable pub get : File → List ℕ → ℕ → Option (List ℕ)
+get f part isn = cond (has-record f part isn) (some (record-of f part isn)) none
+
+-- the bytes of the field at place k of a record
+abbrev pub field-value : File → ℕ → List ℕ → List ℕ
+field-value f k r = piece (field-offset f k) (field-length (field-at f k)) r
+
+-- ---- finding
+-- option `I`: "the lowest ISN at or above the given one that has a record"
+unfoldable pub lowest : File → List ℕ → ℕ → Occupied
+lowest f part from = first-of (has-record f part) (isns-from f part from)
+
+-- "another record of the file has it in that field": a record at an ISN other than the given one has the value in the field at place k
+abbrev pub has-value : File → List ℕ → ℕ → ℕ → List ℕ → ℕ → Bool
+has-value f part k isn value other =
+    not (eqb other isn) && (has-record f part other && same (field-value f k (record-of f part other)) value)
+
+unfoldable pub elsewhere : File → List ℕ → ℕ → ℕ → List ℕ → Bool
+elsewhere f part k isn value = ltb k (field-count f) && any (has-value f part k isn value) (isns-from f part 1)
+
+-- ---- writing
+-- a record: 1, and then the record
+unfoldable pub put-record : File → List ℕ → ℕ → List ℕ → List ℕ
+put-record f part isn r =
+    cond (slot-fits f part isn && eqb (length r) (record-length f)) (patch (slot-offset f isn) (slot-length f) part (1 ∷ r)) part
+
+-- "Emptying sets an ISN's first byte to 0 and keeps the rest"
+unfoldable pub empty : File → List ℕ → ℕ → List ℕ
+empty f part isn = cond (slot-fits f part isn) (set part (slot-offset f isn) 0) part
+
+-- "Set-up puts 0 in every first byte of an ISN and writes nothing else lent"
+unfoldable pub fresh : File → List ℕ → List ℕ
+fresh f part = cleared (slot-length f) (isns-from f part 1) part
+
+-- ---- the whole store
+-- the part of the i-th file, from 0
+unfoldable pub file-part : Definition → ℕ → List ℕ → List ℕ
+file-part d i store = piece (file-offset d i) (file-size (file-at d i)) store
+
+-- the store with another part of the i-th file
+unfoldable pub with-part : Definition → ℕ → List ℕ → List ℕ → List ℕ
+with-part d i store part = patch (file-offset d i) (file-size (file-at d i)) store part
