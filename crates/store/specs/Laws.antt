@@ -87,8 +87,8 @@ module _ (f : File) (p q : List ℕ) (isn : ℕ) (long : length p ≡ length q) 
       rw (has-alike, rest)
 
 -- slots of different ISNs lie apart
-slots-apart : (f : File) (n m : ℕ) → 1 ≤ n → 1 ≤ m → (m ≡ n → ⊥) → Apart (slot-offset f n) (slot-length f) (slot-offset f m) (slot-length f)
-slots-apart f n m p q other = go (outcome (ltb n m)) (outcome (ltb m n))
+isns-apart : (f : File) (n m : ℕ) → 1 ≤ n → 1 ≤ m → (m ≡ n → ⊥) → Apart (slot-offset f n) (slot-length f) (slot-offset f m) (slot-length f)
+isns-apart f n m p q other = go (outcome (ltb n m)) (outcome (ltb m n))
   where
     go : Outcome (ltb n m) → Outcome (ltb m n) → Apart (slot-offset f n) (slot-length f) (slot-offset f m) (slot-length f)
     go (holds a) b = inl (slot-before f n m p (ltb-true n m a))
@@ -103,7 +103,7 @@ module _ (f : File) (p q : List ℕ) (isn : ℕ) (fits : slot-fits f q isn ≡ t
   other-kept zero apart = get-none f p 0 refl ∙ sym (get-none f q 0 refl)
   other-kept (suc n) apart =
       get-alike f p q (suc n) long
-      (kept (slot-offset f (suc n)) (slot-length f) (slots-apart f isn (suc n) (fits-least f q isn fits) (omega arith) apart))
+      (kept (slot-offset f (suc n)) (slot-length f) (isns-apart f isn (suc n) (fits-least f q isn fits) (omega arith) apart))
 
 -- ---- a record that is put
 module _ (f : File) (part : List ℕ) (isn : ℕ) (r : List ℕ) where
@@ -156,10 +156,11 @@ module _ (f : File) (part : List ℕ) (isn : ℕ) (r : List ℕ) where
       go (holds h) = other-kept f (put-record f part isn r) part isn h put-length put-kept other apart
       go (fails h) = let stays : (slot-fits f part isn && eqb (length r) (record-length f)) ≡ false = rw h in rw (put-stays stays)
 
-  -- a record's bytes, lent behind a first byte of 1 and written: so a caller puts a record in its place
+  -- what a caller does who lends the record's bytes on to be written, as a part of the part: behind a first byte of 1 it puts a record
   pub put-lent : slot-fits f part isn ≡ true → length r ≡ record-length f → patch (slot-offset f isn + 1) (record-length f) (set part (slot-offset f isn) 1) r ≡ put-record f part isn r
   put-lent h e = patch-set (slot-offset f isn) (record-length f) part 1 r (omega (arith, slot-inside f part isn h)) ∙ sym (put-puts h e)
 
+  -- and so where there is a record already (A1)
   pub put-over : has-record f part isn ≡ true → length r ≡ record-length f → patch (slot-offset f isn + 1) (record-length f) part r ≡ put-record f part isn r
   unfolding has-record slot-fits
   put-over h e =
