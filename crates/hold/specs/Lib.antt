@@ -1,0 +1,2 @@
+pub mod Hold
+pub mod Parts
