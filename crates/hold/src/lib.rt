@@ -6,7 +6,7 @@ ghost use lib.ListN.{length};
 ghost use Rattle.layout.specs.Layout.{image-length};
 ghost use Rattle.images.specs.Images.{remove-queue, remove-images, remove-count};
 ghost use Rattle.images.specs.declared.Removal.the-variants.{All};
-ghost use Rattle.hold.specs.Hold.{keep-image, put-back-in, put-back, put-back-of, restore};
+ghost use Rattle.hold.specs.Hold.{keep-image, first-change-queue, first-change-images, put-back-in, put-back, put-back-of, restore};
 use definition::Definition;
 use definition::File;
 use images::Removal;
@@ -63,6 +63,32 @@ pub fn keep_image(images: &mut [u8], width: usize, at: usize, content: &[u8])
     }
     let start = at * width;
     copy(content, &mut images[start..start + n]);
+}
+
+// What the first change of the entry at a place does to queue and images: the entry is changed from now on, and where there is a record it is
+// kept as the entry's image. A later change keeps the old image.
+pub fn first_change(
+    queue: &mut [u64],
+    images: &mut [u8],
+    width: usize,
+    at: usize,
+    existed: bool,
+    content: &[u8],
+)
+    ensures { λ _. ⌜ now (queue .exit) ≡ first-change-queue (now (queue .entry)) at existed ⌝ }
+    ensures { λ _. ⌜ now (images .exit) ≡ first-change-images (now (queue .entry)) (now (images .entry)) width at existed (now (content .entry)) ⌝ }
+{
+    if queue.len() <= at {
+        return;
+    }
+    let e = queue::unpack(queue[at]);
+    if e.changed {
+        return;
+    }
+    queue::change(queue, at, existed);
+    if existed {
+        keep_image(images, width, at, content);
+    }
 }
 
 // One entry's record as it was before the entry's first change, in its file's part of the store.
