@@ -3,7 +3,7 @@
 use Prim.Native.Nat.{ℕ, _+_}
 use mathlib.Core.Path.{_≡_, refl}
 use mathlib.Core.Bool.{Bool, true}
-use mathlib.Core.List.{List, [], _∷_, _++_}
+use mathlib.Core.List.{List, [], _∷_, _++_, map}
 use lib.Dec.{eqb}
 use lib.ListN.{set}
 use Rattle.lists.specs.Folds.{all}
@@ -11,8 +11,10 @@ use Rattle.definition.specs.Table.{no-file, no-definition}
 use Rattle.layout.specs.Layout.{record-length, store-size}
 use Rattle.validity.specs.Validity.{name-valid, field-valid, file-valid, valid}
 use Rattle.reading.specs.Grammar.{format-of, option-of, file-item, field-item, item-of, read-from, read-table}
-use Rattle.definition.specs.declared.Format.the-variants.{Alphanumeric}
-use Rattle.definition.specs.declared.FieldOption.the-variants.{Plain, Unique}
+use Rattle.definition.specs.declared.Format.the-variants.{Alphanumeric, Binary, Unpacked, Packed}
+use Rattle.definition.specs.declared.FieldOption.the-variants.{Plain, Descriptor, Unique}
+use Rattle.reading.specs.declared.FormatByte.the-variants.{Known as format-known, Unknown as format-unknown}
+use Rattle.reading.specs.declared.OptionByte.the-variants.{Known as option-known, Unknown as option-unknown}
 use Rattle.reading.specs.declared.End.{End}
 use Rattle.reading.specs.declared.End.the-variants.{At, Broken}
 
@@ -48,12 +50,29 @@ ends : End → ℕ
 ends (At e) = e
 ends Broken = 0
 
--- a field AA of format and length, with the option
+-- a field by its two characters, format, length and option
+named : ℕ → ℕ → ℕ → ℕ → ℕ → List ℕ
+named first second format length option = 2 ∷ first ∷ second ∷ length ∷ format ∷ option ∷ []
+
+-- a field whose name begins with A
 field : ℕ → ℕ → ℕ → ℕ → List ℕ
-field second format length option = 2 ∷ 65 ∷ second ∷ length ∷ format ∷ option ∷ []
+field second format length option = named 65 second format length option
+
+-- fields of one byte, by their second characters
+fields : List ℕ → List ℕ
+fields [] = []
+fields (second ∷ seconds) = field second 65 1 32 ++ fields seconds
+
+sixteen : List ℕ
+sixteen = 48 ∷ 49 ∷ 50 ∷ 51 ∷ 52 ∷ 53 ∷ 54 ∷ 55 ∷ 56 ∷ 57 ∷ 65 ∷ 66 ∷ 67 ∷ 68 ∷ 69 ∷ 70 ∷ []
 
 file : ℕ → ℕ → ℕ → List ℕ
 file number high low = 1 ∷ number ∷ high ∷ low ∷ []
+
+-- files of one ISN and one field, by their numbers
+files : List ℕ → List ℕ
+files [] = []
+files (number ∷ numbers) = file number 0 1 ++ field 65 65 1 32 ++ files numbers
 
 record Row : Type 0 where
   bytes : List ℕ
@@ -80,6 +99,14 @@ rows =
     record { bytes = file 1 16 0 ++ one ++ 0 ∷ []; end = 0 } ∷
     record { bytes = file 1 0 1 ++ field 97 65 1 32 ++ 0 ∷ []; end = 0 } ∷
     record { bytes = file 1 0 1 ++ field 57 65 1 32 ++ 0 ∷ []; end = 11 } ∷
+    record { bytes = file 1 0 1 ++ field 58 65 1 32 ++ 0 ∷ []; end = 0 } ∷
+    record { bytes = file 1 0 1 ++ named 90 90 65 1 32 ++ 0 ∷ []; end = 11 } ∷
+    record { bytes = file 1 0 1 ++ named 91 65 65 1 32 ++ 0 ∷ []; end = 0 } ∷
+    record { bytes = file 1 0 1 ++ named 97 65 65 1 32 ++ 0 ∷ []; end = 0 } ∷
+    record { bytes = file 1 0 1 ++ named 57 65 65 1 32 ++ 0 ∷ []; end = 0 } ∷
+    record { bytes = file 1 0 1 ++ fields sixteen ++ 0 ∷ []; end = 101 } ∷
+    record { bytes = file 1 0 1 ++ fields (71 ∷ sixteen) ++ 0 ∷ []; end = 0 } ∷
+    record { bytes = files (1 ∷ 2 ∷ 3 ∷ 4 ∷ 5 ∷ 6 ∷ 7 ∷ 8 ∷ 9 ∷ 10 ∷ 11 ∷ 12 ∷ 13 ∷ 14 ∷ 15 ∷ 16 ∷ []) ++ 0 ∷ []; end = 161 } ∷
     record { bytes = file 1 0 1 ++ field 65 65 0 32 ++ 0 ∷ []; end = 0 } ∷
     record { bytes = file 1 0 1 ++ field 65 65 253 32 ++ 0 ∷ []; end = 11 } ∷
     record { bytes = file 1 0 1 ++ field 65 65 254 32 ++ 0 ∷ []; end = 0 } ∷
@@ -101,5 +128,14 @@ right : Row → Bool
 right r = eqb (ends (read-table (r .bytes) .end)) (r .end)
 
 rows-right : all right rows ≡ true
-unfolding rows right ends field file one read-table read-from item-of file-item field-item format-of option-of valid file-valid field-valid name-valid record-length
+unfolding rows right ends named field fields sixteen file files one read-table read-from item-of file-item field-item format-of option-of valid file-valid field-valid name-valid record-length
 rows-right = refl
+
+-- ---- what format and option bytes mean
+formats : map format-of (65 ∷ 66 ∷ 85 ∷ 80 ∷ 67 ∷ 97 ∷ []) ≡ format-known Alphanumeric ∷ format-known Binary ∷ format-known Unpacked ∷ format-known Packed ∷ format-unknown ∷ format-unknown ∷ []
+unfolding format-of
+formats = refl
+
+options : map option-of (32 ∷ 68 ∷ 85 ∷ 0 ∷ 100 ∷ []) ≡ option-known Plain ∷ option-known Descriptor ∷ option-known Unique ∷ option-unknown ∷ option-unknown ∷ []
+unfolding option-of
+options = refl
