@@ -89,7 +89,9 @@ rows =
     record { bytes = file 1 0 1 ++ one; end = 0 } ∷
     record { bytes = file 1 0 1 ++ one ++ 0 ∷ []; end = 11 } ∷
     record { bytes = file 1 0 1 ++ one ++ 0 ∷ 0 ∷ []; end = 11 } ∷
-    record { bytes = file 1 0 1 ++ one ++ 3 ∷ 0 ∷ []; end = 0 } ∷
+    record { bytes = file 1 0 1 ++ one ++ (3 ∷ 2 ∷ 0 ∷ 1 ∷ []) ++ one ++ 0 ∷ []; end = 0 } ∷
+    record { bytes = file 1 0 1 ++ one ++ (3 ∷ 65 ∷ 66 ∷ 1 ∷ 65 ∷ 32 ∷ 0 ∷ []); end = 0 } ∷
+    record { bytes = file 1 0 1 ++ one ++ 3 ∷ []; end = 0 } ∷
     record { bytes = one ++ file 1 0 1 ++ one ++ 0 ∷ []; end = 0 } ∷
     record { bytes = file 0 0 1 ++ one ++ 0 ∷ []; end = 0 } ∷
     record { bytes = file 16 0 1 ++ one ++ 0 ∷ []; end = 11 } ∷
