@@ -8,7 +8,7 @@ use lib.Dec.{eqb}
 use lib.ListN.{set}
 use Rattle.lists.specs.Folds.{all}
 use Rattle.definition.specs.Table.{no-file, no-definition}
-use Rattle.layout.specs.Layout.{record-length, store-size}
+use Rattle.layout.specs.Layout.{record-length, store-size, image-length}
 use Rattle.validity.specs.Validity.{name-valid, field-valid, file-valid, valid}
 use Rattle.reading.specs.Grammar.{format-of, option-of, file-item, field-item, item-of, read-from, read-table}
 use Rattle.definition.specs.declared.Format.the-variants.{Alphanumeric, Binary, Unpacked, Packed}
@@ -141,3 +141,11 @@ formats = refl
 options : map option-of (32 ∷ 68 ∷ 85 ∷ 0 ∷ 100 ∷ []) ≡ option-known Plain ∷ option-known Descriptor ∷ option-known Unique ∷ option-unknown ∷ option-unknown ∷ []
 unfolding option-of
 options = refl
+
+-- ---- an image takes the bytes of the longest record, whichever file has it
+widest : map
+    (λ bytes. image-length (read-table bytes .definition))
+    (paper ∷ (file 2 0 9 ++ field 65 65 5 32 ++ files (1 ∷ []) ++ 0 ∷ []) ∷ (files (1 ∷ []) ++ file 2 0 9 ++ field 65 65 5 32 ++ 0 ∷ []) ∷ [])
+    ≡ 3 ∷ 5 ∷ 5 ∷ []
+unfolding paper named field files file read-table read-from item-of file-item field-item format-of option-of valid file-valid field-valid name-valid record-length image-length
+widest = refl
