@@ -1,0 +1,3 @@
+pub mod Journal
+pub mod Run
+pub mod Claim
