@@ -1,2 +1,5 @@
 pub mod Lists
 pub mod Keys
+pub mod Store
+pub mod StoreLaws
+pub mod Fresh
