@@ -3,12 +3,13 @@ use Prim.Native.Nat.{ℕ, zero, suc, _+_, _-_, _*_, _/_, _%_, _≤_, _<_}
 use native.Mathlib.Nat.{div-add-mod'}
 use native.Mathlib.Omega.{arith}
 use mathlib.Core.Path.{_≡_, refl, sym, ap, _∙_}
-use mathlib.Core.Bool.{Bool, true, false}
+use mathlib.Core.Bool.{Bool, true, false, _&&_}
 use mathlib.Core.List.{List, [], _∷_, _++_, map}
 use lib.Dec.{eqb}
 use lib.ListN.{length, getD, take}
 use lib.Seq.{getD-take, length-take-le}
-use Rattle.lists.specs.Tests.{within, within-inside, within-least, within-most, not-both}
+use borrow.Author.Tests.{eqb-true, eq-eqb}
+use Rattle.lists.specs.Tests.{within, within-inside, within-least, within-most, not-both, and-left, and-right, eqb-self}
 use Rattle.lists.specs.Folds.{any, all, Each, each-index}
 use Rattle.lists.specs.Sift.{elem-all, all-append}
 use Rattle.definition.specs.Table.{beyond, file-at, file-count, files-of}
@@ -37,6 +38,14 @@ key-file k = k / isn-bound
 
 unfoldable pub key-isn : ℕ → ℕ
 key-isn k = k % isn-bound
+
+-- a file by its number
+abbrev pub file-found : Definition → Found → File
+file-found d (At i) = file-at d i
+file-found d Nowhere = beyond
+
+unfoldable pub file-of : Definition → ℕ → File
+file-of d n = file-found d (place d n)
 
 -- an ISN of the file that was found
 abbrev pub known-at : Definition → Found → ℕ → Bool
@@ -77,6 +86,20 @@ key-isn-small k = omega arith
 pub keys-apart : (f i g j : ℕ) → i < isn-bound → j < isn-bound → key f i ≡ key g j → (f ≡ g) × (i ≡ j)
 keys-apart f i g j a b e =
     (sym (file-of-key f i a) ∙ ap key-file e ∙ file-of-key g j b, sym (isn-of-key f i a) ∙ ap key-isn e ∙ isn-of-key g j b)
+
+pub key-test : (f i g j : ℕ) → i < isn-bound → j < isn-bound → eqb (key f i) (key g j) ≡ (eqb f g && eqb i j)
+key-test f i g j a b = both-ways (eqb (key f i) (key g j)) (eqb f g && eqb i j) apart alike
+  where
+    apart : eqb (key f i) (key g j) ≡ true → (eqb f g && eqb i j) ≡ true
+    apart h =
+        let e = keys-apart f i g j a b (eqb-true (key f i) (key g j) h) in
+        rw (eq-eqb f g (e .0), eq-eqb i j (e .1))
+
+    alike : (eqb f g && eqb i j) ≡ true → eqb (key f i) (key g j) ≡ true
+    alike h =
+        let e : f ≡ g = eqb-true f g (and-left (eqb f g) (eqb i j) h) in
+        let n : i ≡ j = eqb-true i j (and-right (eqb f g) (eqb i j) h) in
+        rw (e, n) (eqb-self (key g j))
 
 -- ---- a key of the table
 pub record Known (d : Definition) (k : ℕ) : Type 0 where

@@ -3,3 +3,8 @@ pub mod Keys
 pub mod Store
 pub mod StoreLaws
 pub mod Fresh
+pub mod Single
+pub mod Queue
+pub mod Reading
+pub mod Ground
+pub mod Restore
