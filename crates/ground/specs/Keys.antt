@@ -110,6 +110,10 @@ pub record Known (d : Definition) (k : ℕ) : Type 0 where
   pub least : 1 ≤ key-isn k
   pub most : key-isn k ≤ file-at d at .«max_isn»
 
+pub known-file : (d : Definition) (k : ℕ) (r : Known d k) → file-of d (key-file k) ≡ file-at d (r .at)
+unfolding file-of
+known-file d k r = ap (file-found d) (r .found)
+
 module _ (d : Definition) (s : DefinitionShape d) where
   pub known-found : (k : ℕ) → known d k ≡ true → Known d k
   unfolding known

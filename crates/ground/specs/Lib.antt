@@ -8,3 +8,5 @@ pub mod Queue
 pub mod Reading
 pub mod Ground
 pub mod Restore
+pub mod Entries
+pub mod FirstChange

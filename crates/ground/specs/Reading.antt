@@ -23,7 +23,7 @@ use Rattle.queue.specs.declared.Lookup.the-variants.{Held, Free}
 use Rattle.images.specs.Images.{hold-of, with-images}
 use Rattle.images.specs.Laws.{length-with-images}
 use Rattle.transactions.specs.Machine.{Entry as MachineEntry, of-user, at-key, held-by-other}
-use Rattle.transactions.specs.View.{Single, nobody, at} 
+use Rattle.transactions.specs.View.{Single, nobody, at}
 use Rattle.transactions.specs.View.{holder as one}
 use Rattle.ground.specs.Keys.{isn-bound, key, key-test, known}
 use Rattle.ground.specs.Queue.{key-of, held, holds-of, queue-of, entry-known, Made}

@@ -113,7 +113,7 @@ module _ (d : Definition) (s : DefinitionShape d) where
       go (At i) t = and-left (within 1 (file-at d i .«max_isn») (key-isn k)) (fit-width (file-at d i) x) t
       go Nowhere t = t
 
-  fit-form : (k : ℕ) (x : Slot) → fit d k x ≡ true → (i : ℕ) → place d (key-file k) ≡ At i → fit-width (file-at d i) x ≡ true
+  pub fit-form : (k : ℕ) (x : Slot) → fit d k x ≡ true → (i : ℕ) → place d (key-file k) ≡ At i → fit-width (file-at d i) x ≡ true
   unfolding fit
   fit-form k x h i e = and-right (within 1 (file-at d i .«max_isn») (key-isn k)) (fit-width (file-at d i) x) (rw e at h)
 
