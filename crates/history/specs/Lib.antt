@@ -1,3 +1,6 @@
 pub mod Journal
 pub mod Run
 pub mod Claim
+pub mod Updates
+pub mod Kept
+pub mod Accepted
