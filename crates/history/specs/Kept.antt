@@ -65,21 +65,33 @@ member-of u = record { limit = cond (u .session) (u .«time_limit») default-tim
 abbrev pub change-sound : List User → Change → Bool
 change-sound us c = ltb (c .isn) isn-bound && (not (c .uncommitted) || is-active us (c .user))
 
--- ---- all of it
+-- ---- all of it, by what it speaks of
+-- the table, and the store, the queue and the images that were lent for it
+pub record Sized (capacity : ℕ) (d : Definition) (store queue images : List ℕ) (count : ℕ) : Type 0 where
+  pub shape : DefinitionShape d
+  pub valid : validity.valid d ≡ true
+  pub capacity-sound : within 1 max-capacity capacity ≡ true
+  pub made : Made d capacity store queue images count
+
+-- the users, and whose the entries are
+pub record People (clock : ℕ) (us : List User) (es : List Entry) : Type 0 where
+  pub user-count : length us ≡ max-users
+  pub users-sound : all (user-sound clock) us ≡ true
+  pub entries-active : all (entry-active us) es ≡ true
+
+-- the journal beside them
+pub record Told (clock : ℕ) (us : List User) (j : Journal) : Type 0 where
+  pub same-clock : j .clock ≡ clock
+  pub same-members : j .members ≡ map member-of us
+  pub changes-sound : all (change-sound us) (j .changes) ≡ true
+
 module _ (capacity : ℕ) (lent : List ℕ) where
   pub record Kept (n : Nucleus) (j : Journal) : Type 0 where
-    pub shape : DefinitionShape (definition-of n)
-    pub valid : validity.valid (definition-of n) ≡ true
-    pub capacity-sound : within 1 max-capacity capacity ≡ true
-    pub made : Made (definition-of n) capacity (n .store) (n .queue) (n .images) (n .state .count)
-    pub user-count : length (n .state .users) ≡ max-users
-    pub users-sound : all (user-sound (n .state .clock)) (n .state .users) ≡ true
-    pub entries-active : all (entry-active (n .state .users)) (entries-of n) ≡ true
+    pub sized : Sized capacity (definition-of n) (n .store) (n .queue) (n .images) (n .state .count)
+    pub people : People (n .state .clock) (n .state .users) (entries-of n)
     pub marks-sound : marks-made (n .state .«last_assigned») (files-of (definition-of n)) ≡ true
     pub data-sound : all data-made (n .state .«et_data») ≡ true
-    pub same-clock : j .clock ≡ n .state .clock
-    pub same-members : j .members ≡ map member-of (n .state .users)
-    pub changes-sound : all (change-sound (n .state .users)) (j .changes) ≡ true
+    pub told : Told (n .state .clock) (n .state .users) j
     pub invariant : Invariant (ground-of lent n) (seen lent n) (logged (j .changes))
 
 -- nobody is overdue: so it is between calls
