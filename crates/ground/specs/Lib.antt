@@ -10,3 +10,4 @@ pub mod Ground
 pub mod Restore
 pub mod Entries
 pub mod FirstChange
+pub mod Unique
