@@ -11,3 +11,5 @@ pub mod Restore
 pub mod Entries
 pub mod FirstChange
 pub mod Unique
+pub mod Kept
+pub mod Examples

@@ -1,17 +1,17 @@
 -- Laws of lists that crate `lists` is the place for.
 -- Assumes nothing.
 use mathlib.Core.Path.{_≡_, refl, sym, ap, _∙_}
-use mathlib.Core.Bool.{Bool, true, false, _&&_, _||_}
+use mathlib.Core.Bool.{Bool, true, false, not, _&&_, _||_}
 use mathlib.Core.List.{List, [], _∷_, _++_, map}
 use Prim.Native.Nat.{ℕ, zero, suc, _+_, _≤_, _<_}
 use native.Mathlib.Omega.{arith}
 use lib.Dec.{eqb}
-use borrow.Author.Tests.{eqb-true, eqb-false, eq-eqb}
-use Rattle.lists.specs.Tests.{not-both, Outcome, holds, fails, outcome, or-left, or-right, or-true, and-false, eqbs}
-use Rattle.lists.specs.Folds.{all, any, Each}
+use borrow.Author.Tests.{eqb-true, eqb-false, eq-eqb, not-true}
+use Rattle.lists.specs.Tests.{not-both, Outcome, holds, fails, outcome, and-left, and-right, or-left, or-right, or-true, and-false, eqbs}
+use Rattle.lists.specs.Folds.{all, any, distinct, Each}
 use Rattle.lists.specs.Sift.{keep, sift}
 use Rattle.store.specs.Lists.{numbers}
-use Rattle.images.specs.Lists.{same}
+use Rattle.images.specs.Lists.{same, sift as sift-images}
 
 -- two tests that hold together
 pub both-ways : (a b : Bool) → (a ≡ true → b ≡ true) → (b ≡ true → a ≡ true) → a ≡ b
@@ -132,3 +132,34 @@ module _ {A : Type 0} where
       each : (xs : List A) → Each (λ x. (p x && (r y && t y x || any (λ y. r y && t y x) ys)) ≡ (r y && (p x && t y x) || p x && any (λ y. r y && t y x) ys)) xs
       each [] = tt
       each (x ∷ xs) = (spread (p x) (r y) (t y x) (any (λ y. r y && t y x) ys), each xs)
+
+-- ---- no two alike
+pub distinct-over : {A B : Type 0} (f : A → B) (like : B → B → Bool) (l : List A) → distinct (λ x y. like (f x) (f y)) l ≡ distinct like (map f l)
+distinct-over f like [] = refl
+distinct-over f like (x ∷ l) = rw (distinct-over f like l, any-over f (like (f x)) l)
+
+module _ {A : Type 0} where
+  any-left : (p r : A → Bool) (l : List A) → any r l ≡ false → any r (sift p l) ≡ false
+  any-left p r [] h = refl
+  any-left p r (x ∷ l) h = go (p x) (any-left p r l (or-right (r x) (any r l) h))
+    where
+      go : (b : Bool) → any r (sift p l) ≡ false → any r (keep b x (sift p l)) ≡ false
+      go true i = rw (or-left (r x) (any r l) h) i
+      go false i = i
+
+  pub distinct-sift : (like : A → A → Bool) (p : A → Bool) (l : List A) → distinct like l ≡ true → distinct like (sift p l) ≡ true
+  distinct-sift like p [] h = refl
+  distinct-sift like p (x ∷ l) h = go (p x) (distinct-sift like p l (and-right (not (any (like x) l)) (distinct like l) h))
+    where
+      go : (b : Bool) → distinct like (sift p l) ≡ true → distinct like (keep b x (sift p l)) ≡ true
+      go true i = rw (any-left p (like x) l (not-true (any (like x) l) (and-left (not (any (like x) l)) (distinct like l) h))) i
+      go false i = i
+
+  -- `sift`, as `images` says it
+  pub sift-is : (p : A → Bool) (l : List A) → sift-images p l ≡ sift p l
+  sift-is p [] = refl
+  sift-is p (x ∷ l) = go (outcome (p x)) (sift-is p l)
+    where
+      go : Outcome (p x) → sift-images p l ≡ sift p l → sift-images p (x ∷ l) ≡ sift p (x ∷ l)
+      go (holds t) i = rw t (ap (λ r. x ∷ r) i)
+      go (fails t) i = rw t i
