@@ -11,5 +11,6 @@ pub mod Restore
 pub mod Entries
 pub mod FirstChange
 pub mod Unique
+pub mod Taken
 pub mod Kept
 pub mod Examples
