@@ -13,4 +13,5 @@ pub mod FirstChange
 pub mod Unique
 pub mod Taken
 pub mod Kept
+pub mod Acts
 pub mod Examples

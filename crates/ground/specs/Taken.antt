@@ -9,16 +9,15 @@ use mathlib.Core.List.{List}
 use mathlib.Core.Option.{none, some}
 use lib.Dec.{eqb}
 use lib.ListN.{length}
-use borrow.Author.Tests.{eqb-true, eqb-false, eq-eqb, ne-eqb, not-true}
-use Rattle.lists.specs.Tests.{Outcome, holds, fails, outcome, not-both, eqbs, eqb-self, eqbs-self, and-left, and-right}
+use borrow.Author.Tests.{eqb-true, eqb-false, ne-eqb, not-true}
+use Rattle.lists.specs.Tests.{Outcome, holds, fails, outcome, not-both, eqb-self, eqbs-self, and-left, and-right}
 use Rattle.lists.specs.Folds.{any}
 use Rattle.lists.specs.Sift.{any-elem}
-use Rattle.definition.specs.Table.{file-at, field-count, max-files}
+use Rattle.definition.specs.Table.{file-at, field-count}
 use Rattle.definition.specs.Shape.{FileShape, DefinitionShape, file-shape-at}
 use Rattle.definition.specs.declared.File.{File}
 use Rattle.definition.specs.declared.Definition.{Definition}
-use Rattle.layout.specs.Layout.{field-offset, record-length, image-length, place}
-use Rattle.layout.specs.declared.Found.the-variants.{At}
+use Rattle.layout.specs.Layout.{field-offset, record-length, store-size, image-length}
 use Rattle.validity.specs.Validity.{valid}
 use Rattle.validity.specs.Laws.{valid-at}
 use Rattle.queue.specs.Queue.{entries}
@@ -30,10 +29,10 @@ use Rattle.images.specs.Images.{image-has}
 use Rattle.transactions.specs.Slots.{Slot}
 use Rattle.transactions.specs.Machine.{held-by-other, clash, taken}
 use Rattle.ground.specs.Lists.{both-ways, any-each, each-with, any-swap, any-or, eqbs-true}
-use Rattle.ground.specs.Keys.{isn-bound, key, key-file, key-isn, key-parts, file-of, file-of-key, isn-of-key, keys, known, Known, known-file, known-isn, keys-known}
+use Rattle.ground.specs.Keys.{isn-bound, key, key-file, key-isn, key-parts, file-of, file-of-key, isn-of-key, keys, Known, known-file, known-isn, keys-known}
 use Rattle.ground.specs.Store.{get}
 use Rattle.ground.specs.StoreLaws.{get-is}
-use Rattle.ground.specs.Queue.{queue-of, Made}
+use Rattle.ground.specs.Queue.{queue-of}
 use Rattle.ground.specs.Ground.{Updates, ground, machine, uniques}
 use Rattle.ground.specs.Unique.{has-value, uniques-in-use, clash-is, images-clash}
 
@@ -54,7 +53,7 @@ has-holds : (f : File) (j : ℕ) (v : List ℕ) (x : Slot) → has-value f j v x
 has-holds f j v none h = not-both false h refl
 has-holds f j v (some b) h = record { bytes = b; there = refl; has = sym (eqbs-true v (field-value f j b) h) }
 
-module _ (d : Definition) (s : DefinitionShape d) (valid-d : valid d ≡ true) (store : List ℕ) (long : Rattle.layout.specs.Layout.store-size d ≤ length store) (k : ℕ) (home : Known d k) where
+module _ (d : Definition) (s : DefinitionShape d) (valid-d : valid d ≡ true) (store : List ℕ) (long : store-size d ≤ length store) (k : ℕ) (home : Known d k) where
   abbrev f : File
   f = file-at d (home .at)
 
