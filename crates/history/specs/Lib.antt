@@ -6,3 +6,4 @@ pub mod Kept
 pub mod Accepted
 pub mod People
 pub mod Keeping
+pub mod UpdateLaws
