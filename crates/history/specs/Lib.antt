@@ -7,3 +7,5 @@ pub mod Accepted
 pub mod People
 pub mod Keeping
 pub mod UpdateLaws
+pub mod Logs
+pub mod Ends
