@@ -179,3 +179,13 @@ module _ (capacity : ℕ) (lent : List ℕ) (n : Nucleus) (j : Journal) (k : Kep
           rw (act-back-out d (k .sized .shape) (updates d) lent capacity (n .store) (n .queue) (n .images) (n .state .count) (k .sized .made) u, log-back-out d lent u (j .changes)) at
           (kept-act (ground-of lent n) (laws-of capacity lent n (k .sized)) (seen lent n) (logged (j .changes)) (k .invariant) (back-out u) (back-out-allowed (seen lent n)));
     }
+
+  -- the journal has no start of him any more, and his limit still
+  pub idle-member : (x : User) → x .active ≡ false → x .session ≡ user-of n u .session → x .«time_limit» ≡ user-of n u .«time_limit»
+      → member-of x ≡ record { limit = member j u .limit; start = none }
+  idle-member x idle session limit = rw (member-is (n .state .users) u j (k .told .same-members), idle, session, limit)
+
+  -- BT, a forced back-out, and the clock's
+  pub kept-backed-out : Kept capacity lent (backed-out u n) (struck u j)
+  unfolding backed-out removed
+  kept-backed-out = kept-out (ended (user-of n u)) refl (idle-member (ended (user-of n u)) refl refl refl)

@@ -9,3 +9,4 @@ pub mod Keeping
 pub mod UpdateLaws
 pub mod Logs
 pub mod Ends
+pub mod Passing

@@ -1,6 +1,6 @@
 -- One user of the list changes: what that does to each user's own soundness, to whose entries and changes stand, and to the journal's members.
 -- Assumes nothing.
-use Prim.Native.Nat.{ℕ, zero, suc, _+_, _-_, _≤_, _<_, max}
+use Prim.Native.Nat.{ℕ, zero, suc, _+_, _-_, _≤_, suc-le-suc, _<_}
 use native.Mathlib.Omega.{arith}
 use mathlib.Core.Path.{_≡_, refl, sym, ap, _∙_}
 use mathlib.Core.Bool.{Bool, true, false, not, _&&_, _||_}
@@ -36,6 +36,10 @@ module _ {A : Type 0} where
   all-getD p [] i d h k = k
   all-getD p (y ∷ ys) zero d h k = and-left (p y) (all p ys) h
   all-getD p (y ∷ ys) (suc i) d h k = all-getD p ys i d (and-right (p y) (all p ys) h) k
+
+  pub all-index : (p : A → Bool) (d : A) (xs : List A) → ((i : ℕ) → i < length xs → p (getD xs i d) ≡ true) → all p xs ≡ true
+  all-index p d [] h = refl
+  all-index p d (x ∷ xs) h = rw (h zero (omega arith), all-index p d xs (λ i b. h (suc i) (suc-le-suc b)))
 
 -- ---- one user
 -- what is asked of a user in a transaction
