@@ -4,3 +4,4 @@ pub mod Claim
 pub mod Updates
 pub mod Kept
 pub mod Accepted
+pub mod QueueMoves
