@@ -5,3 +5,4 @@ pub mod Updates
 pub mod Kept
 pub mod Accepted
 pub mod QueueMoves
+pub mod BackOutMoves
