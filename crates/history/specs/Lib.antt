@@ -6,3 +6,4 @@ pub mod Kept
 pub mod Accepted
 pub mod QueueMoves
 pub mod BackOutMoves
+pub mod HoldMoves
