@@ -10,3 +10,6 @@ pub mod UpdateLaws
 pub mod Logs
 pub mod Ends
 pub mod Passing
+pub mod QueueMoves
+pub mod BackOutMoves
+pub mod HoldMoves
