@@ -11,5 +11,5 @@ pub mod Logs
 pub mod Ends
 pub mod Passing
 pub mod QueueMoves
-pub mod BackOutMoves
 pub mod HoldMoves
+pub mod Holding
