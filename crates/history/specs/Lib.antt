@@ -5,3 +5,6 @@ pub mod Updates
 pub mod Kept
 pub mod Accepted
 pub mod UpdateLaws
+pub mod Lists
+pub mod ReadShape
+pub mod SetUpKept
