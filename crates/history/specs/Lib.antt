@@ -17,3 +17,5 @@ pub mod Lists
 pub mod ReadShape
 pub mod SetUpKept
 pub mod Releasing
+pub mod Standing
+pub mod Performing
