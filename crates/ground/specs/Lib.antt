@@ -10,3 +10,6 @@ pub mod Ground
 pub mod Restore
 pub mod Entries
 pub mod FirstChange
+pub mod Unique
+pub mod Kept
+pub mod Examples

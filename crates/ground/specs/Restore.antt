@@ -25,7 +25,7 @@ use Rattle.transactions.specs.Slots.{Slot}
 use Rattle.transactions.specs.Machine.{restore as machine-restore}
 use Rattle.ground.specs.Keys.{isn-bound, key, file-found, file-of, file-of-key, isn-of-key}
 use Rattle.ground.specs.Store.{put-in, put-at, put}
-use Rattle.ground.specs.StoreLaws.{put-is, put-room, put-length-same}
+use Rattle.ground.specs.StoreLaws.{put-is, put-room, put-length-same, put-past}
 use Rattle.ground.specs.Queue.{key-of, before, held, holds-of, queue-of, Made}
 use Rattle.ground.specs.Reading.{Small, entries-small}
 use Rattle.ground.specs.Ground.{Updates, ground}
@@ -71,11 +71,39 @@ module _ (d : Definition) (s : DefinitionShape d) where
         ap (restored d (image-length d) user es (drop (image-length d) images)) first
         ∙ restored-all es (h .1) (drop (image-length d) images) _ (undone-room (e .changed && eqb (e .user) user) store (key-of e) _ room)
 
-    module _ (capacity : ℕ) (store words images : List ℕ) (count : ℕ) (m : Made d capacity store words images count) where
-      -- a back-out, in a well made state
-      pub restore-is : restore d (image-length d) user words images count store ≡ machine-restore (ground d U lent) (λ v. eqb v user) (queue-of d words images count) store
-      unfolding restore queue-of
-      restore-is =
-          let fits : count * image-length d ≤ length images = omega (arith, mul-le-mul-right (image-length d) (m .most), m .image-room) in
-          rw (le-leb (count * image-length d) (length images) fits)
-          (restored-all (entries words count) (entries-small words count) images store (m .store-room))
+  -- what every record that is put keeps, a back-out keeps
+  module _ (P : List ℕ → Type 0) (keeps : (t : List ℕ) (k : ℕ) (x : Slot) → store-size d ≤ length t → P t → P (put d t k x)) (user : ℕ) where
+    restored-keeps : (es : List Entry) → Small es → (images store : List ℕ) → store-size d ≤ length store → P store → P (restored d (image-length d) user es images store)
+    restored-keeps [] h images store room p = p
+    restored-keeps (e ∷ es) h images store room p =
+        let image = take (image-length d) images in
+        let undo = eqb (e .user) user && e .changed in
+        let is : put-back-of d user e image store ≡ cond undo (put d store (key-of e) (before d e image)) store = ap (λ x. cond undo x store) (put-back-put e (h .0) image store room) in
+        restored-keeps es (h .1) (drop (image-length d) images) _ (rw is (undone-room undo store (key-of e) (before d e image) room)) (rw is (one undo (key-of e) (before d e image)))
+      where
+        one : (b : Bool) (k : ℕ) (x : Slot) → P (cond b (put d store k x) store)
+        one true k x = keeps store k x room p
+        one false k x = p
+
+  module _ (user capacity : ℕ) (store words images : List ℕ) (count : ℕ) (m : Made d capacity store words images count) where
+    restores : restore d (image-length d) user words images count store ≡ restored d (image-length d) user (entries words count) images store
+    unfolding restore
+    restores =
+        let fits : count * image-length d ≤ length images = omega (arith, mul-le-mul-right (image-length d) (m .most), m .image-room) in
+        rw (le-leb (count * image-length d) (length images) fits)
+
+    pub restore-length : length (restore d (image-length d) user words images count store) ≡ length store
+    restore-length =
+        rw restores
+        (restored-keeps (λ t. length t ≡ length store) (λ t k x room p. put-length-same d s t k x room ∙ p) user (entries words count) (entries-small words count) images store (m .store-room) refl)
+
+    pub restore-past : drop (store-size d) (restore d (image-length d) user words images count store) ≡ drop (store-size d) store
+    restore-past =
+        rw restores
+        (restored-keeps (λ t. drop (store-size d) t ≡ drop (store-size d) store) (λ t k x room p. put-past d s t k x room ∙ p) user (entries words count) (entries-small words count) images store (m .store-room) refl)
+
+    -- a back-out, in a well made state
+    pub restore-is : (U : Updates) (lent : List ℕ)
+        → restore d (image-length d) user words images count store ≡ machine-restore (ground d U lent) (λ v. eqb v user) (queue-of d words images count) store
+    unfolding queue-of
+    restore-is U lent = rw restores (restored-all U lent user (entries words count) (entries-small words count) images store (m .store-room))
