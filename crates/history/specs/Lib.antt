@@ -4,3 +4,5 @@ pub mod Claim
 pub mod Updates
 pub mod Kept
 pub mod Accepted
+pub mod Changes
+pub mod ChangesAllowed
