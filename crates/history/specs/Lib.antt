@@ -6,3 +6,4 @@ pub mod Kept
 pub mod Accepted
 pub mod Changes
 pub mod ChangesAllowed
+pub mod ChangesEffect
