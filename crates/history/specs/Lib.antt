@@ -5,5 +5,6 @@ pub mod Updates
 pub mod Kept
 pub mod Accepted
 pub mod Changes
-pub mod ChangesAllowed
+pub mod ChangesLogged
 pub mod ChangesEffect
+pub mod ChangesAllowed
