@@ -19,3 +19,7 @@ pub mod SetUpKept
 pub mod Releasing
 pub mod Standing
 pub mod Performing
+pub mod Changes
+pub mod ChangesLogged
+pub mod ChangesEffect
+pub mod ChangesAllowed
