@@ -23,3 +23,4 @@ pub mod Changes
 pub mod ChangesLogged
 pub mod ChangesEffect
 pub mod ChangesAllowed
+pub mod Changing
