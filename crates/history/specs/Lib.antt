@@ -24,3 +24,4 @@ pub mod ChangesLogged
 pub mod ChangesEffect
 pub mod ChangesAllowed
 pub mod Changing
+pub mod Serving
