@@ -25,3 +25,4 @@ pub mod ChangesEffect
 pub mod ChangesAllowed
 pub mod Changing
 pub mod Serving
+pub mod Stepping
