@@ -10,7 +10,7 @@ use lib.ListN.{set}
 use lib.Seq.{set-getD}
 use borrow.Author.Tests.{eqb-true, not-true, not-false}
 use Rattle.lists.specs.Tests.{and-false, cond, Outcome, holds, fails, outcome, within, within-least, within-most, not-both, and-left, and-right}
-use Rattle.lists.specs.Folds.{all}
+use Rattle.lists.specs.Folds.{any, all}
 use Rattle.lists.specs.Sift.{sift}
 use Rattle.ground.specs.Keys.{isn-bound}
 use Rattle.nucleus.specs.Commands.{command-of, one-of, has-option}
@@ -19,7 +19,7 @@ use Rattle.nucleus.specs.Responses.{number}
 use Rattle.nucleus.specs.Nucleus.{Nucleus, Request, Result, max-users, user-of, change-user}
 use Rattle.nucleus.specs.Clock as nucleus
 use Rattle.nucleus.specs.Clock.{backed-out}
-use Rattle.nucleus.specs.Rows.{first-cause, rows-first, rows-after-clock, rows-last, understood, overdue-mark, ends-active}
+use Rattle.nucleus.specs.Rows.{row, first-cause, rows-first, rows-after-clock, rows-last, understood, overdue-mark, ends-active}
 use Rattle.nucleus.specs.Effects.{effect}
 use Rattle.nucleus.specs.Step.{unless, refusal, perform, told, serve, request, serve-command, step}
 use Rattle.nucleus.specs.declared.Command.{Command}
@@ -202,3 +202,58 @@ module _ (lent : List ℕ) (n : Nucleus) (j : Journal) (r : Request) (p : Passed
       go (holds o) e = rw o (served-marked o)
       go (fails o) (holds e) = rw (o, e) (served-out (and-left (one-of (Op ∷ Cl ∷ []) (r .command)) (x .active) e))
       go (fails o) (fails e) = rw (o, e) (performed lent m j r passed-session (ready o (λ ends. rw ends at e)))
+
+-- ---- a call
+abbrev pub not-of-list : ℕ → Bool
+not-of-list response = any (eqb response) (10 ∷ 11 ∷ 12 ∷ [])
+
+pub record Stepped (capacity : ℕ) (lent : List ℕ) (call : Call) (format buffer : List ℕ) (j : Journal) (x : Result) : Type 0 where
+  pub passed : Passed capacity lent (x .nucleus) (fed call format buffer (number (x .answer .response)) (x .answer .isn) j)
+  -- no call of a list answers 10, 11 or 12
+  pub of-list : not-of-list (number (x .answer .response)) ≡ false
+
+first-three : (a b c more : Bool) → (a || (b || (c || more))) ≡ false → (a || (b || (c || false))) ≡ false
+first-three true b c more h = h
+first-three false true c more h = h
+first-three false false true more h = h
+first-three false false false more h = refl
+
+early-of-list : (response : ℕ) → is-early response ≡ false → not-of-list response ≡ false
+early-of-list response h = first-three (eqb response 10) (eqb response 11) (eqb response 12) _ h
+
+module _ (capacity : ℕ) (lent : List ℕ) (n : Nucleus) (j : Journal) (p : Passed capacity lent n j) (call : Call) (format buffer : List ℕ) where
+  -- 22 and 72: all is as it was
+  refused-first : (c : Response) → is-early (number c) ≡ true → not-of-list (number c) ≡ false → Stepped capacity lent call format buffer j (refusal buffer n c)
+  unfolding fed
+  refused-first c early of = record { passed = rw early p; of-list = of }
+
+  -- past the clock
+  served-known : (c : Command) → command-of (call .command) ≡ some c → has-option c (call .option) ≡ true → within 1 max-users (call .user) ≡ true
+      → Stepped capacity lent call format buffer j (serve (request capacity c call format buffer) (nucleus.clocked (call .clock) n))
+  unfolding fed
+  served-known c known option user =
+      let r = request capacity c call format buffer in
+      let s = served lent (nucleus.clocked (call .clock) n) (journal.clocked (call .clock) j) r (passed-clock capacity lent (call .clock) n j (p .kept))
+      (within-least 1 max-users (call .user) user) (within-most 1 max-users (call .user) user) option
+      in
+      record { passed = rw (s .not-early, known) (s .passed); of-list = early-of-list (number (serve r (nucleus.clocked (call .clock) n) .answer .response)) (s .not-early) }
+
+  pub stepped : Stepped capacity lent call format buffer j (step capacity call format buffer n)
+  unfolding step rows-first
+  stepped =
+      rw (p .kept .sized .valid, long-kept capacity lent n j (p .kept), well-made-kept capacity lent n j (p .kept))
+      (go (command-of (call .command)) refl)
+    where
+      after-first : Option Command → Result
+      after-first x =
+          unless (first-cause (row CommandUnknown (not (understood x (call .option))) ∷ row UserUnknown (not (within 1 max-users (call .user))) ∷ [])) (refusal buffer n)
+          (serve-command x capacity call format buffer n)
+
+      go : (x : Option Command) → command-of (call .command) ≡ x → Stepped capacity lent call format buffer j (after-first x)
+      go none e = refused-first CommandUnknown refl refl
+      go (some c) e = go-on (outcome (has-option c (call .option))) (outcome (within 1 max-users (call .user)))
+        where
+          go-on : Outcome (has-option c (call .option)) → Outcome (within 1 max-users (call .user)) → Stepped capacity lent call format buffer j (after-first (some c))
+          go-on (fails o) u = rw o (refused-first CommandUnknown refl refl)
+          go-on (holds o) (fails u) = rw (o, u) (refused-first UserUnknown refl refl)
+          go-on (holds o) (holds u) = rw (o, u) (served-known c e o u)
