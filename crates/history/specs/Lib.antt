@@ -26,3 +26,4 @@ pub mod ChangesAllowed
 pub mod Changing
 pub mod Serving
 pub mod Stepping
+pub mod Resting
