@@ -27,3 +27,4 @@ pub mod Changing
 pub mod Serving
 pub mod Stepping
 pub mod Resting
+pub mod Records

@@ -1,0 +1,124 @@
+-- What the argument of requirement 3 says of records: the nucleus has what the journal has, and no unique value is there twice.
+-- Assumes nothing.
+use Prim.Native.Nat.{ℕ, _≤_, _<_}
+use native.Mathlib.Omega.{arith}
+use mathlib.Core.Path.{_≡_, refl, sym, ap, _∙_}
+use mathlib.Core.Logic.{_≢_}
+use mathlib.Core.Bool.{Bool, true, false, not, _&&_, _||_}
+use mathlib.Core.List.{List, [], _∷_, map}
+use mathlib.Core.Option.{Option, none, some}
+use lib.Dec.{eqb, ltb}
+use lib.ListN.{length}
+use borrow.Author.Tests.{eqb-true, ltb-true, ltb-false, ne-eqb}
+use Rattle.lists.specs.Tests.{and-false, cond, Outcome, holds, fails, outcome, within, within-least, within-most, not-both, and-left, and-right}
+use Rattle.lists.specs.Folds.{any, all}
+use Rattle.definition.specs.Table.{beyond, file-at, field-at, field-count}
+use Rattle.definition.specs.Shape.{DefinitionShape, file-shape-at}
+use Rattle.definition.specs.declared.Definition.{Definition}
+use Rattle.definition.specs.declared.File.{File}
+use Rattle.definition.specs.declared.FieldOption.the-variants.{Unique}
+use Rattle.layout.specs.Layout.{place}
+use Rattle.layout.specs.Laws.{place-found}
+use Rattle.layout.specs.declared.Found.{Found}
+use Rattle.layout.specs.declared.Found.the-variants.{At, Nowhere}
+use Rattle.store.specs.Store as records
+use Rattle.store.specs.Store.{slot-count, file-part, field-value}
+use Rattle.transactions.specs.Machine.{replay}
+use Rattle.transactions.specs.Theorems.{same-slots, no-value-twice, Two, Apart}
+use Rattle.ground.specs.Keys.{isn-bound, key, key-file, key-isn, file-of-key, isn-of-key, key-test, file-found, file-of, known, keys, keys-known}
+use Rattle.ground.specs.Store.{get, get-at}
+use Rattle.ground.specs.StoreLaws.{get-is}
+use Rattle.ground.specs.Ground.{uniques}
+use Rattle.nucleus.specs.Nucleus.{Nucleus}
+use Rattle.nucleus.specs.declared.User.{User}
+use Rattle.nucleus.specs.Target.{file-in, part-in}
+use Rattle.history.specs.Journal.{Journal, Change, apply, is-at, replayed, record-told}
+use Rattle.history.specs.Run.{record-in}
+use Rattle.history.specs.Claim.{SameRecords, UniqueValues, file-numbered}
+use Rattle.history.specs.Updates.{as-change, logged}
+use Rattle.history.specs.Kept.{Kept, definition-of, ground-of, seen, is-active, change-sound}
+use Rattle.history.specs.Ends.{laws-of}
+
+-- ---- the file, as `ground` and as `nucleus` find it
+same-file : (d : Definition) (file : ℕ) → file-of d file ≡ file-in d (place d file)
+unfolding file-of
+same-file d file = go (place d file)
+  where
+    go : (x : Found) → file-found d x ≡ file-in d x
+    go (At i) = refl
+    go Nowhere = refl
+
+-- no record at an ISN that the file does not have
+none-outside : (f : File) (part : List ℕ) (isn : ℕ) → (1 ≤ isn → isn ≤ f .«max_isn» → ⊥) → records.get f part isn ≡ none
+unfolding records.get records.has-record
+none-outside f part isn bad = go (outcome (within 1 (slot-count f (length part)) isn))
+  where
+    go : Outcome (within 1 (slot-count f (length part)) isn) → records.get f part isn ≡ none
+    go (holds t) = absurd (bad (within-least 1 (slot-count f (length part)) isn t) (omega (arith, within-most 1 (slot-count f (length part)) isn t)))
+    go (fails t) = rw t
+
+change-small : (us : List User) (c : Change) → change-sound us c ≡ true → c .isn < isn-bound
+change-small us c h = ltb-true (c .isn) isn-bound (and-left (ltb (c .isn) isn-bound) (not (c .uncommitted) || is-active us (c .user)) h)
+
+module _ (capacity : ℕ) (lent : List ℕ) (n : Nucleus) (j : Journal) (k : Kept capacity lent n j) where
+  abbrev d : Definition
+  d = definition-of n
+
+  -- ---- of an ISN of two bytes
+  module _ (file isn : ℕ) (small : isn < isn-bound) where
+    slot-in : get d (n .store) (key file isn) ≡ record-in n file isn
+    slot-in =
+        get-is d (n .store) (k .sized .made .store-room) (key file isn)
+        ∙ rw (file-of-key file isn small, isn-of-key file isn small) (go (place d file))
+      where
+        go : (x : Found) → get-at d x isn (n .store) ≡ records.get (file-in d x) (part-in d x (n .store)) isn
+        go (At i) = refl
+        go Nowhere = sym (none-outside beyond [] isn (λ a b. absurd (omega arith)))
+
+    -- one change of the journal, and of the machine's
+    same-change : (c : Change) → c .isn < isn-bound → (x : Option (List ℕ))
+        → cond (eqb (key (c .file) (c .isn)) (key file isn)) (apply (file-of d (key-file (key (c .file) (c .isn)))) (c .update) x) x
+        ≡ cond (is-at file isn c) (apply (file-in d (place d file)) (c .update) x) x
+    same-change c s x = rw (key-test (c .file) (c .isn) file isn s small, file-of-key (c .file) (c .isn) s) (go (outcome (is-at file isn c)))
+      where
+        go : Outcome (is-at file isn c) → cond (is-at file isn c) (apply (file-of d (c .file)) (c .update) x) x ≡ cond (is-at file isn c) (apply (file-in d (place d file)) (c .update) x) x
+        go (holds t) =
+            let e : c .file ≡ file = eqb-true (c .file) file (and-left (eqb (c .file) file) (eqb (c .isn) isn) t) in
+            ap (λ f. cond (is-at file isn c) (apply f (c .update) x) x) (ap (file-of d) e ∙ same-file d file)
+        go (fails t) = rw t
+
+    replay-is : (cs : List Change) → all (change-sound (n .state .users)) cs ≡ true → (x : Option (List ℕ)) → replay (ground-of lent n) (key file isn) x (logged cs) ≡ replayed d file isn x cs
+    unfolding replay
+    replay-is [] h x = refl
+    replay-is (c ∷ cs) h x =
+        ap (λ y. replay (ground-of lent n) (key file isn) y (logged cs)) (same-change c (change-small (n .state .users) c (and-left (change-sound (n .state .users) c) (all (change-sound (n .state .users)) cs) h)) x)
+        ∙ replay-is cs (and-right (change-sound (n .state .users) c) (all (change-sound (n .state .users)) cs) h) _
+
+    same-small : record-in n file isn ≡ replayed d file isn none (j .changes)
+    same-small =
+        sym slot-in ∙ same-slots (ground-of lent n) (laws-of capacity lent n (k .sized)) (seen lent n) (logged (j .changes)) (k .invariant) (key file isn)
+        ∙ replay-is (j .changes) (k .told .changes-sound) none
+
+  -- ---- of an ISN that no file has
+  module _ (file isn : ℕ) (large : isn-bound ≤ isn) where
+    no-change : (cs : List Change) → all (change-sound (n .state .users)) cs ≡ true → (x : Option (List ℕ)) → replayed d file isn x cs ≡ x
+    no-change [] h x = refl
+    no-change (c ∷ cs) h x =
+        let s = change-small (n .state .users) c (and-left (change-sound (n .state .users) c) (all (change-sound (n .state .users)) cs) h) in
+        let apart : eqb (c .isn) isn ≡ false = ne-eqb (c .isn) isn (λ e. absurd (omega (arith, e))) in
+        rw (apart, and-false (eqb (c .file) file)) (no-change cs (and-right (change-sound (n .state .users) c) (all (change-sound (n .state .users)) cs) h) x)
+
+    none-large : record-in n file isn ≡ none
+    none-large = none-outside (file-in d (place d file)) (part-in d (place d file) (n .store)) isn (λ a b. absurd (omega (arith, b, highest (place d file) refl, large)))
+      where
+        highest : (x : Found) → place d file ≡ x → file-in d x .«max_isn» < isn-bound
+        highest (At i) e = file-shape-at d (k .sized .shape) i (omega (arith, place-found d (k .sized .shape) file i e .0)) .small-max-isn
+        highest Nowhere e = omega arith
+
+  pub same-records : SameRecords n j
+  unfolding record-told
+  same-records file isn = go (outcome (ltb isn isn-bound))
+    where
+      go : Outcome (ltb isn isn-bound) → record-in n file isn ≡ replayed d file isn none (j .changes)
+      go (holds t) = same-small file isn (ltb-true isn isn-bound t)
+      go (fails t) = let large = ltb-false isn isn-bound t in none-large file isn large ∙ sym (no-change file isn large (j .changes) (k .told .changes-sound) none)
