@@ -28,3 +28,4 @@ pub mod Serving
 pub mod Stepping
 pub mod Resting
 pub mod Records
+pub mod Theorem

@@ -10,8 +10,9 @@ use mathlib.Core.Option.{Option, none, some}
 use lib.Dec.{eqb, ltb}
 use lib.ListN.{length}
 use borrow.Author.Tests.{eqb-true, ltb-true, ltb-false, ne-eqb}
-use Rattle.lists.specs.Tests.{and-false, cond, Outcome, holds, fails, outcome, within, within-least, within-most, not-both, and-left, and-right}
+use Rattle.lists.specs.Tests.{and-false, cond, Outcome, holds, fails, outcome, within, within-inside, within-least, within-most, not-both, and-left, and-right}
 use Rattle.lists.specs.Folds.{any, all}
+use Rattle.lists.specs.Sift.{any-sift}
 use Rattle.definition.specs.Table.{beyond, file-at, field-at, field-count}
 use Rattle.definition.specs.Shape.{DefinitionShape, file-shape-at}
 use Rattle.definition.specs.declared.Definition.{Definition}
@@ -21,14 +22,16 @@ use Rattle.layout.specs.Layout.{place}
 use Rattle.layout.specs.Laws.{place-found}
 use Rattle.layout.specs.declared.Found.{Found}
 use Rattle.layout.specs.declared.Found.the-variants.{At, Nowhere}
+use Rattle.store.specs.Lists.{numbers}
+use Rattle.ground.specs.Lists.{in-numbers}
 use Rattle.store.specs.Store as records
 use Rattle.store.specs.Store.{slot-count, file-part, field-value}
 use Rattle.transactions.specs.Machine.{replay}
 use Rattle.transactions.specs.Theorems.{same-slots, no-value-twice, Two, Apart}
-use Rattle.ground.specs.Keys.{isn-bound, key, key-file, key-isn, file-of-key, isn-of-key, key-test, file-found, file-of, known, keys, keys-known}
+use Rattle.ground.specs.Keys.{isn-bound, key, key-file, key-isn, file-of-key, isn-of-key, key-test, file-found, file-of, known, known-at, keys, keys-known}
 use Rattle.ground.specs.Store.{get, get-at}
 use Rattle.ground.specs.StoreLaws.{get-is}
-use Rattle.ground.specs.Ground.{uniques}
+use Rattle.ground.specs.Ground.{is-unique, uniques}
 use Rattle.nucleus.specs.Nucleus.{Nucleus}
 use Rattle.nucleus.specs.declared.User.{User}
 use Rattle.nucleus.specs.Target.{file-in, part-in}
@@ -56,6 +59,21 @@ none-outside f part isn bad = go (outcome (within 1 (slot-count f (length part))
     go : Outcome (within 1 (slot-count f (length part)) isn) → records.get f part isn ≡ none
     go (holds t) = absurd (bad (within-least 1 (slot-count f (length part)) isn t) (omega (arith, within-most 1 (slot-count f (length part)) isn t)))
     go (fails t) = rw t
+
+-- a unique field in use is one of those that are judged
+elem-both : (q : ℕ → Bool) (f : ℕ) (xs : List ℕ) → any (eqb f) xs ≡ true → q f ≡ true → any (λ x. q x && eqb f x) xs ≡ true
+elem-both q f [] h t = h
+elem-both q f (x ∷ xs) h t = go (outcome (eqb f x)) (elem-both q f xs)
+  where
+    go : Outcome (eqb f x) → (any (eqb f) xs ≡ true → q f ≡ true → any (λ y. q y && eqb f y) xs ≡ true) → any (λ y. q y && eqb f y) (x ∷ xs) ≡ true
+    go (holds e) later = let same : f ≡ x = eqb-true f x e in rw (e, ← same, t)
+    go (fails e) later = rw (e, and-false (q x)) (later (rw e at h) t)
+
+unique-place : (f : File) (i : ℕ) → i < field-count f → field-at f i .option ≡ Unique → any (eqb i) (uniques f) ≡ true
+unfolding uniques
+unique-place f i used unique =
+    any-sift (λ x. is-unique (field-at f x .option)) (eqb i) (numbers (field-count f) 0)
+    ∙ elem-both (λ x. is-unique (field-at f x .option)) i (numbers (field-count f) 0) (in-numbers (field-count f) 0 i (omega arith) (omega (arith, used))) (rw unique)
 
 change-small : (us : List User) (c : Change) → change-sound us c ≡ true → c .isn < isn-bound
 change-small us c h = ltb-true (c .isn) isn-bound (and-left (ltb (c .isn) isn-bound) (not (c .uncommitted) || is-active us (c .user)) h)
@@ -122,3 +140,50 @@ module _ (capacity : ℕ) (lent : List ℕ) (n : Nucleus) (j : Journal) (k : Kep
       go : Outcome (ltb isn isn-bound) → record-in n file isn ≡ replayed d file isn none (j .changes)
       go (holds t) = same-small file isn (ltb-true isn isn-bound t)
       go (fails t) = let large = ltb-false isn isn-bound t in none-large file isn large ∙ sym (no-change file isn large (j .changes) (k .told .changes-sound) none)
+
+  -- ---- no unique value twice
+  -- where a record is, is an ISN of the table
+  module _ (file isn : ℕ) (a : List ℕ) (there : record-in n file isn ≡ some a) where
+    some-none : {A : Type 0} → record-in n file isn ≡ none → A
+    some-none e = absurd (let z : _≡_ {A = ℕ} 0 1 = cc in omega arith)
+
+    there-small : isn < isn-bound
+    there-small = go (outcome (ltb isn isn-bound))
+      where
+        go : Outcome (ltb isn isn-bound) → isn < isn-bound
+        go (holds t) = ltb-true isn isn-bound t
+        go (fails t) = some-none (none-large file isn (ltb-false isn isn-bound t))
+
+    there-known : known d (key file isn) ≡ true
+    unfolding known
+    there-known = rw (file-of-key file isn there-small, isn-of-key file isn there-small) (go (place d file) refl)
+      where
+        go : (x : Found) → place d file ≡ x → known-at d x isn ≡ true
+        go (At i) e = inside (outcome (within 1 (file-at d i .«max_isn») isn))
+          where
+            inside : Outcome (within 1 (file-at d i .«max_isn») isn) → within 1 (file-at d i .«max_isn») isn ≡ true
+            inside (holds t) = t
+            inside (fails t) =
+                some-none (rw e (none-outside (file-at d i) (file-part d i (n .store)) isn (λ p q. not-both (within 1 (file-at d i .«max_isn») isn) (within-inside 1 (file-at d i .«max_isn») isn p q) t)))
+        go Nowhere e = some-none (rw e (none-outside beyond [] isn (λ p q. absurd (omega arith))))
+
+    there-slot : get d (n .store) (key file isn) ≡ some a
+    there-slot = slot-in file isn there-small ∙ there
+
+    there-key : any (eqb (key file isn)) (keys d) ≡ true
+    there-key = keys-known d (k .sized .shape) (k .sized .valid) (key file isn) ∙ there-known
+
+  pub unique-values : UniqueValues n
+  unique-values file isn other f a b apart one two used unique same =
+      let small = there-small file isn a one in
+      let small-other = there-small file other b two in
+      let home : file-of d (key-file (key file isn)) ≡ file-numbered n file = ap (file-of d) (file-of-key file isn small) ∙ same-file d file in
+      no-value-twice (ground-of lent n) (laws-of capacity lent n (k .sized)) (seen lent n) (logged (j .changes)) (k .invariant) (key file isn) (key file other)
+      (record {
+        one = there-key file isn a one;
+        two = there-key file other b two;
+        unlike = key-test file isn file other small small-other ∙ rw (ne-eqb isn other apart) (and-false (eqb file file));
+        same = file-of-key file isn small ∙ sym (file-of-key file other small-other);
+      })
+      a b f (there-slot file isn a one) (there-slot file other b two)
+      (rw home (unique-place (file-numbered n file) f used unique)) (rw home same)
