@@ -1,46 +1,44 @@
 -- An accepted A1, E1, N1 or N2 is a change that the abstract machine allows: nobody else holds the ISN (145), the record is of the file's width, and
 -- no unique value that it brings is taken (198).
 -- Assumes nothing.
-use Prim.Native.Nat.{ℕ, _≤_, _<_}
+use Prim.Native.Nat.{ℕ, _<_}
 use native.Mathlib.Omega.{arith}
 use mathlib.Core.Path.{_≡_, refl, sym, ap, subst₂, _∙_}
 use mathlib.Core.Bool.{Bool, true, false, not, _&&_, _||_, and-assoc}
 use mathlib.Core.List.{List, [], _∷_}
 use mathlib.Core.Option.{none, some}
-use lib.Dec.{eqb, leb}
+use lib.Dec.{eqb}
 use lib.ListN.{length}
-use borrow.Author.Tests.{eqb-true, eqb-false, eq-eqb, leb-false, not-true}
-use Rattle.lists.specs.Tests.{Outcome, holds, fails, outcome, not-both, and-left, and-right, or-left, or-right, eqb-self, eqbs}
+use borrow.Author.Tests.{eqb-true, eqb-false, leb-false, not-true}
+use Rattle.lists.specs.Tests.{Outcome, holds, fails, outcome, not-both, and-left, and-right, or-left, or-right, eqb-self}
 use Rattle.lists.specs.Folds.{any, Each}
 use Rattle.lists.specs.Sift.{any-sift}
-use Rattle.definition.specs.Table.{field-at, field-count, file-at}
+use Rattle.definition.specs.Table.{field-at, field-count}
 use Rattle.definition.specs.Shape.{FileShape, DefinitionShape, file-shape-at}
 use Rattle.definition.specs.declared.Definition.{Definition}
 use Rattle.definition.specs.declared.File.{File}
-use Rattle.layout.specs.Layout.{field-offset, record-length, image-length, store-size, place}
+use Rattle.layout.specs.Layout.{field-offset, record-length}
 use Rattle.elements.specs.Elements.{places}
 use Rattle.store.specs.Lists.{numbers, any-agree, any-none, same-true}
 use Rattle.store.specs.Store.{field-value, elsewhere}
-use Rattle.store.specs.Store as records
 use Rattle.store.specs.Finding.{elsewhere-false}
 use Rattle.images.specs.Images.{image-has}
 use Rattle.transactions.specs.Slots.{Slot}
 use Rattle.transactions.specs.Machine as machine
 use Rattle.ground.specs.Lists.{any-swap, each-fails}
-use Rattle.ground.specs.Keys.{isn-bound, key, key-file, key-isn, key-parts, file-of, file-of-key, isn-of-key, keys}
+use Rattle.ground.specs.Keys.{key, key-file, key-isn, key-parts, file-of, file-of-key, keys}
 use Rattle.ground.specs.Store.{get}
 use Rattle.ground.specs.StoreLaws.{get-is}
 use Rattle.ground.specs.Queue.{queue-of, Made}
 use Rattle.ground.specs.Reading.{found-passes, other-holds}
 use Rattle.ground.specs.Ground.{is-unique, uniques}
 use Rattle.ground.specs.Unique.{has-value, uniques-in-use, clash-is, images-clash}
-use Rattle.queue.specs.Queue.{holder}
 use Rattle.queue.specs.declared.Lookup.{Lookup}
 use Rattle.queue.specs.declared.Lookup.the-variants.{Held, Free}
 use Rattle.nucleus.specs.Commands.{one-of}
 use Rattle.nucleus.specs.Nucleus.{Nucleus, Request, entries-of}
 use Rattle.nucleus.specs.Clock.{width-of}
-use Rattle.nucleus.specs.Target.{held-by-other, file, part, record-at, holder-of, target-isn}
+use Rattle.nucleus.specs.Target.{held-by-other, file, part, holder-of, target-isn}
 use Rattle.nucleus.specs.Rows.{held-elsewhere, queue-full, his, new-record, judged as judged-row, is-taken, value-taken}
 use Rattle.nucleus.specs.declared.Command.the-variants.{Hi, L4, A1, E1, N1, N2}
 use Rattle.history.specs.Updates.{FileUpdate, suits, judged, updates}

@@ -8,3 +8,4 @@ pub mod Changes
 pub mod ChangesLogged
 pub mod ChangesEffect
 pub mod ChangesAllowed
+pub mod ChangesResult
