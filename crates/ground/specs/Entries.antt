@@ -1,21 +1,21 @@
 -- What a new entry and a removal make of the abstract queue: `with-hold`, and the `sift`s of release, end and back-out.
 -- Assumes nothing.
-use Prim.Native.Nat.{ℕ, _+_, _*_, _≤_, _<_}
+use Prim.Native.Nat.{ℕ, _+_, _*_, _<_}
 use native.Mathlib.Nat.{mul-le-mul-right}
 use native.Mathlib.Omega.{arith}
 use mathlib.Core.Path.{_≡_, refl, sym, ap, _∙_}
 use mathlib.Core.Bool.{Bool, true, false, not, cond, _&&_, _||_}
 use mathlib.Core.List.{List, [], _∷_, _++_, map, map-append}
 use mathlib.Core.Option.{none}
-use lib.Dec.{eqb, leb}
+use lib.Dec.{eqb}
 use lib.ListN.{length, take, drop}
 use borrow.Author.Tests.{le-leb}
 use Rattle.lists.specs.Tests.{Outcome, holds, fails, outcome, eqb-self}
-use Rattle.lists.specs.Folds.{all, Each}
+use Rattle.lists.specs.Folds.{Each}
 use Rattle.lists.specs.Sift.{sift}
 use Rattle.definition.specs.declared.Definition.{Definition}
 use Rattle.layout.specs.Layout.{image-length}
-use Rattle.queue.specs.Queue.{is-of, entries, holder, append}
+use Rattle.queue.specs.Queue.{entries, holder, append}
 use Rattle.queue.specs.Laws.{Shape, is-held, entries-append}
 use Rattle.queue.specs.declared.Entry.{Entry}
 use Rattle.queue.specs.declared.Lookup.the-variants.{Held, Free}

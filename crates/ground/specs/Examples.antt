@@ -11,13 +11,11 @@ use Rattle.definition.specs.declared.File.{File}
 use Rattle.definition.specs.declared.Definition.{Definition}
 use Rattle.definition.specs.declared.Format.the-variants.{Alphanumeric}
 use Rattle.definition.specs.declared.FieldOption.the-variants.{Plain, Unique}
-use Rattle.layout.specs.Layout.{field-offset, record-length, file-offset, store-size, image-length, place}
+use Rattle.layout.specs.Layout.{record-length, file-offset, store-size, image-length, place}
 use Rattle.store.specs.Store.{slot-fits, has-record, get as get-record, put-record, empty, file-part, with-part}
 use Rattle.queue.specs.Queue.{pack-of, unpack-of, entries}
 use Rattle.hold.specs.Hold.{put-back-in, put-back, restore}
-use Rattle.transactions.specs.Slots.{Slot}
-use Rattle.transactions.specs.Machine.{Entry}
-use Rattle.ground.specs.Keys.{key, key-file, key-isn, file-of, keys, known}
+use Rattle.ground.specs.Keys.{key, key-file, key-isn, file-of, keys}
 use Rattle.ground.specs.Store.{whole, get, put}
 use Rattle.ground.specs.Queue.{queue-of}
 

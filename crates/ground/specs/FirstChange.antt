@@ -1,14 +1,14 @@
 -- What the first change of an entry, and a later one, make of the abstract queue: the entry of the key is marked, with the slot that stands there
 -- now as its image.
 -- Assumes nothing.
-use Prim.Native.Nat.{ℕ, zero, suc, _+_, _*_, _≤_, _<_, max}
+use Prim.Native.Nat.{ℕ, zero, suc, _+_, _*_, _≤_, _<_}
 use native.Mathlib.Nat.{mul-le-mul-right}
 use native.Mathlib.Omega.{arith}
 use mathlib.Core.Path.{_≡_, refl, sym, ap, _∙_}
-use mathlib.Core.Bool.{Bool, true, false, cond, _&&_, _||_}
+use mathlib.Core.Bool.{Bool, true, false, cond}
 use mathlib.Core.List.{List, [], _∷_, _++_, map, append-assoc}
 use mathlib.Core.Option.{none, some}
-use lib.Dec.{eqb, leb}
+use lib.Dec.{eqb}
 use lib.ListN.{length, take, drop, getD, set, length-append, length-take, length-drop, length-set, take-append-drop}
 use lib.Seq.{sets, sets-eq, paste, drop-drop, drop-append-le, take-at, take-all, getD-take, length-take-le, set-set, set-getD, getD-set-same}
 use borrow.Author.Tests.{le-leb, lt-leb, eqb-true}
@@ -17,9 +17,8 @@ use Rattle.lists.specs.Folds.{maximum, all-at}
 use Rattle.definition.specs.Table.{beyond, file-at, file-count, files-of}
 use Rattle.definition.specs.Shape.{DefinitionShape}
 use Rattle.definition.specs.declared.Definition.{Definition}
-use Rattle.layout.specs.Layout.{record-length, image-length, place}
-use Rattle.layout.specs.declared.Found.the-variants.{At}
-use Rattle.queue.specs.Queue.{unpack-of, mark as mark-entry, entries, holder, change}
+use Rattle.layout.specs.Layout.{record-length, image-length}
+use Rattle.queue.specs.Queue.{mark as mark-entry, entries, holder, change}
 use Rattle.queue.specs.Lists.{map-set}
 use Rattle.queue.specs.Laws.{no-entry, length-entries, entries-change, Found, held-found}
 use Rattle.queue.specs.declared.Entry.{Entry}
@@ -32,7 +31,7 @@ use Rattle.transactions.specs.Machine.{Entry as MachineEntry, marked, mark}
 use Rattle.ground.specs.Keys.{isn-bound, key, file-of, file-of-key, known, Known, known-found, known-file}
 use Rattle.ground.specs.Store.{get}
 use Rattle.ground.specs.StoreLaws.{get-fit, fit-form}
-use Rattle.ground.specs.Queue.{key-of, before, held, holds-of, queue-of, entry-known, Made}
+use Rattle.ground.specs.Queue.{key-of, before, held, queue-of, entry-known, Made}
 use Rattle.ground.specs.Reading.{single-at, found-inside, found-word, found-key, found-at, found-long, found-here}
 use Rattle.ground.specs.Single.{mark-set, marked-changed}
 

@@ -18,10 +18,11 @@ use Rattle.validity.specs.Validity.{valid}
 use Rattle.store.specs.Lists.{numbers}
 use Rattle.store.specs.Store.{field-value}
 use Rattle.transactions.specs.Slots.{Bytes, Slot}
-use Rattle.transactions.specs.Machine.{Ground, Laws}
+use Rattle.transactions.specs.Machine.{Ground, Laws, Machine}
 use Rattle.ground.specs.Keys.{key-file, file-of, keys, known, keys-known}
 use Rattle.ground.specs.Store.{get, put, fit, fresh-store}
 use Rattle.ground.specs.StoreLaws.{get-put, get-other, get-fit}
+use Rattle.ground.specs.Queue.{queue-of}
 use Rattle.ground.specs.Fresh.{get-fresh-store}
 
 -- ---- the unique fields of a file, by their places
@@ -57,6 +58,10 @@ ground d U lent = record {
   may = U .may;
   judges = U .judges;
 }
+
+-- store, queue and images, read as the machine
+abbrev pub machine : (d : Definition) (U : Updates) (lent store words images : List ℕ) → ℕ → Machine (ground d U lent)
+machine d U lent store words images count = record { store = store; queue = queue-of d words images count }
 
 -- what is asked of the kinds of change
 pub record UpdateLaws (d : Definition) (U : Updates) : Type 0 where

@@ -4,23 +4,22 @@ use Prim.Native.Nat.{ℕ, _+_, _*_, _≤_, _<_}
 use native.Mathlib.Omega.{arith}
 use mathlib.Core.Path.{_≡_, refl, sym, ap, _∙_}
 use mathlib.Core.Bool.{Bool, true, false, not, cond, _&&_}
-use mathlib.Core.List.{List, [], _∷_, _++_, map}
-use lib.Dec.{eqb, leb}
+use mathlib.Core.List.{List, [], _∷_}
+use lib.Dec.{eqb}
 use lib.ListN.{length, getD, set}
 use lib.Seq.{sets, length-sets, map-set-same}
-use borrow.Author.Tests.{not-true, not-false}
-use Rattle.lists.specs.Tests.{Outcome, holds, fails, outcome}
-use Rattle.lists.specs.Folds.{any, all, distinct}
-use Rattle.lists.specs.Sift.{sift, all-keeps, all-append}
+use borrow.Author.Tests.{not-false}
+use Rattle.lists.specs.Folds.{all, distinct}
+use Rattle.lists.specs.Sift.{all-keeps, all-append}
 use Rattle.definition.specs.Shape.{DefinitionShape}
 use Rattle.definition.specs.declared.Definition.{Definition}
 use Rattle.layout.specs.Layout.{store-size, image-length}
-use Rattle.queue.specs.Queue.{is-of, alike, mark, entries, holder, repeated, append, change}
+use Rattle.queue.specs.Queue.{alike, mark, entries, holder, repeated, append, change}
 use Rattle.queue.specs.Lists.{distinct-last}
 use Rattle.queue.specs.Laws.{Shape, no-entry, free-none, entries-append, length-append-entry, entries-change, length-change}
 use Rattle.queue.specs.declared.Entry.{Entry}
 use Rattle.queue.specs.declared.Lookup.the-variants.{Free}
-use Rattle.images.specs.Images.{stays, fits, remove-queue, remove-images, remove-count}
+use Rattle.images.specs.Images.{stays, remove-queue, remove-images, remove-count}
 use Rattle.images.specs.Laws.{remove-count-most, length-remove-queue, length-remove-images, entries-remove}
 use Rattle.images.specs.declared.Removal.{Removal}
 use Rattle.hold.specs.Hold.{keep-image, settled, first-change-queue, first-change-images, restore}

@@ -11,5 +11,7 @@ pub mod Restore
 pub mod Entries
 pub mod FirstChange
 pub mod Unique
+pub mod Taken
 pub mod Kept
+pub mod Acts
 pub mod Examples

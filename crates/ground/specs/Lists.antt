@@ -73,6 +73,15 @@ eqbs-same [] (y ∷ ys) = refl
 eqbs-same (x ∷ xs) [] = refl
 eqbs-same (x ∷ xs) (y ∷ ys) = rw (eqb-comm x y, eqbs-same xs ys)
 
+pub eqbs-true : (a b : List ℕ) → eqbs a b ≡ true → a ≡ b
+eqbs-true [] [] h = refl
+eqbs-true [] (y ∷ ys) h = not-both false h refl
+eqbs-true (x ∷ xs) [] h = not-both false h refl
+eqbs-true (x ∷ xs) (y ∷ ys) h =
+    let first = eqb-true x y (and-left (eqb x y) (eqbs xs ys) h) in
+    let rest = eqbs-true xs ys (and-right (eqb x y) (eqbs xs ys) h) in
+    cc
+
 -- ---- some of a list, for tests that agree on it
 pub any-each : {A : Type 0} (p r : A → Bool) (l : List A) → Each (λ x. p x ≡ r x) l → any p l ≡ any r l
 any-each p r [] h = refl
@@ -96,7 +105,7 @@ each-sift P p (x ∷ l) h = go (p x) (each-sift P p l (h .1))
 
 -- some of one list with some of another
 module _ {A : Type 0} where
-  any-or : (p r : A → Bool) (l : List A) → any (λ x. p x || r x) l ≡ (any p l || any r l)
+  pub any-or : (p r : A → Bool) (l : List A) → any (λ x. p x || r x) l ≡ (any p l || any r l)
   any-or p r [] = refl
   any-or p r (x ∷ l) = rw (any-or p r l) (go (p x) (r x) (any p l) (any r l))
     where

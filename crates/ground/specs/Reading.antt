@@ -1,32 +1,31 @@
 -- What is found in the queue is what the abstract queue has: who holds a key, and that no key is held twice.
 -- Assumes nothing.
-use Prim.Native.Nat.{ℕ, zero, suc, _+_, _*_, _≤_, _<_}
-use native.Mathlib.Nat.{le-of-suc-le-suc, not-suc-le-zero, mul-le-mul-right}
+use Prim.Native.Nat.{ℕ, zero, suc, _+_, _*_, _<_}
+use native.Mathlib.Nat.{le-of-suc-le-suc, not-suc-le-zero}
 use native.Mathlib.Omega.{arith}
 use mathlib.Core.Path.{_≡_, refl, sym, ap, _∙_}
-use mathlib.Core.Bool.{Bool, true, false, not, _&&_, _||_, and-true}
-use mathlib.Core.List.{List, [], _∷_, map}
+use mathlib.Core.Bool.{Bool, true, false, not, _&&_, and-true, or-false}
+use mathlib.Core.List.{List, [], _∷_}
 use lib.Dec.{eqb}
-use lib.ListN.{length, take, drop, getD, length-map, List·getD-map}
+use lib.ListN.{length, take, drop, getD, length-map}
 use lib.Seq.{drop-drop}
 use borrow.Author.Tests.{eqb-true, not-true, not-false}
 use Rattle.lists.specs.Tests.{Outcome, holds, fails, outcome, and-left, and-right, or-left, or-right, eqb-self, eqb-sym}
-use Rattle.lists.specs.Folds.{any, all, distinct, Each, each-index, all-at}
-use Rattle.lists.specs.Sift.{keep, sift, sift-none, any-sift}
+use Rattle.lists.specs.Folds.{any, distinct, Each, each-index}
+use Rattle.lists.specs.Sift.{sift-none, any-sift}
 use Rattle.definition.specs.declared.Definition.{Definition}
 use Rattle.layout.specs.Layout.{image-length}
 use Rattle.queue.specs.Queue.{unpack-of, is-of, alike, entries, holder, repeated}
-use Rattle.queue.specs.Laws.{no-entry, unpack-shape, length-entries, entry-at, is-held, held-any, Found, held-found, free-none}
+use Rattle.queue.specs.Laws.{no-entry, unpack-shape, length-entries, entry-at, is-held, held-any, Found, held-found}
 use Rattle.queue.specs.declared.Entry.{Entry}
 use Rattle.queue.specs.declared.Lookup.{Lookup}
 use Rattle.queue.specs.declared.Lookup.the-variants.{Held, Free}
 use Rattle.images.specs.Images.{hold-of, with-images}
 use Rattle.images.specs.Laws.{length-with-images}
 use Rattle.transactions.specs.Machine.{Entry as MachineEntry, of-user, at-key, held-by-other}
-use Rattle.transactions.specs.View.{Single, nobody, at}
-use Rattle.transactions.specs.View.{holder as one}
-use Rattle.ground.specs.Keys.{isn-bound, key, key-test, known}
-use Rattle.ground.specs.Queue.{key-of, held, holds-of, queue-of, entry-known, Made}
+use Rattle.transactions.specs.View.{Single, nobody, holder as one, at}
+use Rattle.ground.specs.Keys.{isn-bound, key, key-test}
+use Rattle.ground.specs.Queue.{key-of, held, holds-of, queue-of}
 use Rattle.ground.specs.Single.{at-index}
 
 -- ---- of any list of entries whose ISNs fit their bytes
@@ -77,10 +76,6 @@ entries-small words count = each-index (λ e. e .isn < isn-bound) no-entry (entr
   where
     here : (i : ℕ) → i < length (entries words count) → getD (entries words count) i no-entry .isn < isn-bound
     here i h = let m : i < count = omega (arith, length-entries words count) in rw (entry-at words count i m) (unpack-shape (getD words i 0) .isn)
-
-or-none : (a : Bool) → (a || false) ≡ a
-or-none true = refl
-or-none false = refl
 
 -- the user of an entry that was found passes the test
 abbrev pub found-passes : (ℕ → Bool) → Lookup → Bool
@@ -144,7 +139,7 @@ module _ (d : Definition) (words images : List ℕ) (count : ℕ) where
         go : (r : Lookup) → holder (entries words count) file isn ≡ r → held-by-other u (key file isn) q ≡ found-passes (λ v. not (eqb v u)) r
         go (Held i e) found =
             sym (any-sift (at-key (key file isn)) (λ (x : MachineEntry). not (of-user u x)) q)
-            ∙ rw (found-one file isn i e found) (or-none (not (eqb (e .user) u)))
+            ∙ rw (found-one file isn i e found) (or-false (not (eqb (e .user) u)))
         go Free found =
             sym (any-sift (at-key (key file isn)) (λ (x : MachineEntry). not (of-user u x)) q)
             ∙ rw (sift-none (at-key (key file isn)) q (held-key file isn small ∙ ap is-held found))

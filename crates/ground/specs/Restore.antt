@@ -3,8 +3,8 @@
 use Prim.Native.Nat.{ℕ, _*_, _≤_, _<_}
 use native.Mathlib.Nat.{mul-le-mul-right}
 use native.Mathlib.Omega.{arith}
-use mathlib.Core.Path.{_≡_, refl, sym, ap, _∙_}
-use mathlib.Core.Bool.{Bool, true, false, cond, _&&_, and-comm}
+use mathlib.Core.Path.{_≡_, refl, ap, _∙_}
+use mathlib.Core.Bool.{Bool, true, false, cond, _&&_}
 use mathlib.Core.List.{List, [], _∷_}
 use mathlib.Core.Option.{none, some}
 use lib.Dec.{eqb}
@@ -20,13 +20,12 @@ use Rattle.store.specs.Store.{put-record, empty, file-part, with-part}
 use Rattle.queue.specs.Queue.{entries}
 use Rattle.queue.specs.declared.Entry.{Entry}
 use Rattle.hold.specs.Hold.{put-back-in, put-back-at, put-back, put-back-of, restored, restore}
-use Rattle.images.specs.Images.{hold-of}
 use Rattle.transactions.specs.Slots.{Slot}
 use Rattle.transactions.specs.Machine.{restore as machine-restore}
-use Rattle.ground.specs.Keys.{isn-bound, key, file-found, file-of, file-of-key, isn-of-key}
+use Rattle.ground.specs.Keys.{isn-bound, file-found, file-of, file-of-key, isn-of-key}
 use Rattle.ground.specs.Store.{put-in, put-at, put}
 use Rattle.ground.specs.StoreLaws.{put-is, put-room, put-length-same, put-past}
-use Rattle.ground.specs.Queue.{key-of, before, held, holds-of, queue-of, Made}
+use Rattle.ground.specs.Queue.{key-of, before, holds-of, queue-of, Made}
 use Rattle.ground.specs.Reading.{Small, entries-small}
 use Rattle.ground.specs.Ground.{Updates, ground}
 

@@ -8,10 +8,10 @@ use mathlib.Core.Bool.{Bool, true, false, not, cond, _&&_, _||_}
 use mathlib.Core.List.{List, [], _∷_, map}
 use lib.ListN.{length, getD, set}
 use Rattle.lists.specs.Tests.{not-both, and-left, and-right}
-use Rattle.lists.specs.Folds.{any, all}
+use Rattle.lists.specs.Folds.{all}
 use Rattle.lists.specs.Sift.{keep, sift}
 use Rattle.transactions.specs.Slots.{Slot}
-use Rattle.transactions.specs.Machine.{Entry, of-user, at-key, held-by-other, marked, mark}
+use Rattle.transactions.specs.Machine.{Entry, of-user, at-key, marked, mark}
 use Rattle.transactions.specs.View.{Single, holder, at}
 
 single-tail : {e : Entry} {l : List Entry} → Single (e ∷ l) → l ≡ []

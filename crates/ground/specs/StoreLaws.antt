@@ -23,7 +23,7 @@ use Rattle.store.specs.Store.{get as get-record, file-part, with-part}
 use Rattle.store.specs.Laws.{fits-whole, get-length, put-length, get-put as get-put-record, get-put-other, empty-length, get-empty, get-empty-other}
 use Rattle.store.specs.Files.{file-part-length, with-part-length, part-same, part-other, part-past}
 use Rattle.transactions.specs.Slots.{Slot}
-use Rattle.ground.specs.Keys.{key-file, key-isn, key-parts, known, known-at, Known, known-found}
+use Rattle.ground.specs.Keys.{isn-bound, key, file-of-key, isn-of-key, key-file, key-isn, key-parts, known, known-at, Known, known-found}
 use Rattle.ground.specs.Store.{whole, get-at, get, put-in, put-at, put, fit-width, fit-at, fit}
 
 -- ---- one file's part
@@ -69,6 +69,14 @@ module _ (d : Definition) (store : List ℕ) (room : store-size d ≤ length sto
   pub put-is : (x : Slot) → put d store k x ≡ put-at d (place d (key-file k)) (key-isn k) x store
   unfolding put
   put-is x = ap (put-at d (place d (key-file k)) (key-isn k) x) (whole-long d store room)
+
+-- for a file by its number, and an ISN of two bytes
+module _ (d : Definition) (store : List ℕ) (room : store-size d ≤ length store) (n isn i : ℕ) (small : isn < isn-bound) (found : place d n ≡ At i) where
+  pub get-key : get d store (key n isn) ≡ get-record (file-at d i) (file-part d i store) isn
+  get-key = rw (get-is d store room (key n isn), file-of-key n isn small, isn-of-key n isn small, found)
+
+  pub put-key : (x : Slot) → put d store (key n isn) x ≡ with-part d i store (put-in (file-at d i) (file-part d i store) isn x)
+  put-key x = rw (put-is d store room (key n isn) x, file-of-key n isn small, isn-of-key n isn small, found)
 
 module _ (d : Definition) (s : DefinitionShape d) where
   -- ---- a part put back: it lies in a file in use, and has its size

@@ -9,9 +9,8 @@ use mathlib.Core.Option.{none, some}
 use lib.Dec.{eqb}
 use lib.ListN.{length, take, drop}
 use borrow.Author.Tests.{eqb-true}
-use Rattle.lists.specs.Tests.{Outcome, holds, fails, outcome, eqbs, not-both}
+use Rattle.lists.specs.Tests.{eqbs, not-both}
 use Rattle.lists.specs.Folds.{any, Each}
-use Rattle.lists.specs.Sift.{keep, sift}
 use Rattle.definition.specs.Table.{field-at, field-count}
 use Rattle.definition.specs.Shape.{FileShape}
 use Rattle.definition.specs.declared.File.{File}
@@ -22,15 +21,14 @@ use Rattle.queue.specs.Queue.{entries}
 use Rattle.queue.specs.declared.Entry.{Entry}
 use Rattle.store.specs.Lists.{numbers, each-number, piece-piece, length-piece}
 use Rattle.store.specs.Store.{field-value}
-use Rattle.images.specs.Lists.{same}
-use Rattle.images.specs.Images.{hold-of, has-at, taken-by, image-has}
+use Rattle.images.specs.Images.{has-at, image-has}
 use Rattle.transactions.specs.Slots.{Slot}
 use Rattle.transactions.specs.Machine.{Entry as MachineEntry, of-user, at-key, held-by-other, clash}
 use Rattle.ground.specs.Lists.{eqb-comm, eqbs-same, any-each, each-with, each-fails, each-sift, any-never, any-swap}
-use Rattle.ground.specs.Keys.{isn-bound, key-file, file-of, file-of-key}
-use Rattle.ground.specs.Queue.{held, holds-of, queue-of}
+use Rattle.ground.specs.Keys.{key-file, file-of, file-of-key}
+use Rattle.ground.specs.Queue.{holds-of, queue-of}
 use Rattle.ground.specs.Reading.{Small, entries-small}
-use Rattle.ground.specs.Ground.{Updates, ground, is-unique, uniques}
+use Rattle.ground.specs.Ground.{Updates, ground, uniques}
 
 -- the slot has a record with the value in its field at place j
 abbrev pub has-value : File → ℕ → List ℕ → Slot → Bool
