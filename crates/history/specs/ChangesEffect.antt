@@ -22,9 +22,9 @@ use Rattle.hold.specs.Hold.{settled, first-change-queue}
 use Rattle.transactions.specs.Slots.{Slot}
 use Rattle.transactions.specs.Machine.{Entry as MachineEntry, with-hold, mark}
 use Rattle.ground.specs.Lists.{all-over}
-use Rattle.ground.specs.Keys.{isn-bound, key, file-of-key, isn-of-key}
+use Rattle.ground.specs.Keys.{isn-bound, key}
 use Rattle.ground.specs.Store.{get, put-in, put}
-use Rattle.ground.specs.StoreLaws.{put-is}
+use Rattle.ground.specs.StoreLaws.{put-key}
 use Rattle.ground.specs.Queue.{queue-of, Made}
 use Rattle.ground.specs.Reading.{found-inside}
 use Rattle.ground.specs.FirstChange.{queue-first-change}
@@ -147,7 +147,7 @@ module _ (capacity : ℕ) (r : Request) (n : Nucleus) (s : DefinitionShape (defi
 
   -- the file's part with a slot is the store with it
   part-put : (x : Slot) → store-with (definition-of n) (found r n) (n .store) (put-in (file r n) (part r n) isn x) ≡ put (definition-of n) (n .store) k x
-  part-put x = rw (put-is (definition-of n) (n .store) room k x, file-of-key (r .call .file) isn (t .small), isn-of-key (r .call .file) isn (t .small), t .found)
+  part-put x = rw (put-key (definition-of n) (n .store) room (r .call .file) isn (t .at) (t .small) (t .found) x, t .found)
 
   image-put : (x : Slot) → with-part-of r (put-in (file r n) (part r n) isn x) image .store ≡ put (definition-of n) (n .store) k x
   image-put x =

@@ -15,6 +15,7 @@ use Rattle.definition.specs.declared.File.{File}
 use Rattle.layout.specs.Layout.{store-size}
 use Rattle.layout.specs.declared.Found.{Found}
 use Rattle.layout.specs.declared.Found.the-variants.{At, Nowhere}
+use Rattle.validity.specs.Validity.{valid}
 use Rattle.queue.specs.declared.Lookup.{Lookup}
 use Rattle.queue.specs.declared.Lookup.the-variants.{Held, Free}
 use Rattle.transactions.specs.Slots.{Slot}
@@ -129,12 +130,12 @@ module _ (r : Request) (n : Nucleus) where
   result-marks t h (adds-there e) = rw (written-marks (target-isn r n)) h
 
 -- ---- the machine's change
-module _ (r : Request) (n : Nucleus) (s : DefinitionShape (definition-of n)) (capacity : ℕ)
+module _ (r : Request) (n : Nucleus) (s : DefinitionShape (definition-of n)) (v : valid (definition-of n) ≡ true) (capacity : ℕ)
     (made : Made (definition-of n) capacity (n .store) (n .queue) (n .images) (n .state .count)) (t : Aim r n) (a : Accepted r n) (c : Changes r) where
   pub change-acts : (lent : List ℕ) (m : Nucleus) → Changed capacity r n (slot-of r n c) m
       → _≡_ {A = machine.Machine (ground-of lent n)} (record { store = m .store; queue = queue-of (definition-of n) (m .queue) (m .images) (m .state .count) })
       (machine.act (ground-of lent n) (machine.change (r .call .user) (key (r .call .file) (target-isn r n)) (file-update r c)) (seen lent n))
   unfolding machine.act
   change-acts lent m x =
-      let stored = x .store ∙ ap (put (definition-of n) (n .store) (key (r .call .file) (target-isn r n))) (sym (machine-applied r n s capacity made t a c)) in
+      let stored = x .store ∙ ap (put (definition-of n) (n .store) (key (r .call .file) (target-isn r n))) (sym (machine-applied r n s v capacity made t a c)) in
       λ j. record { store = stored j; queue = x .queue j }
