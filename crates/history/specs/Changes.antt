@@ -28,7 +28,7 @@ use Rattle.store.specs.declared.Occupied.{Occupied}
 use Rattle.store.specs.declared.Occupied.the-variants.{At, Nowhere}
 use Rattle.ground.specs.Keys.{isn-bound, key, file-of, file-of-key, isn-of-key, known, known-here}
 use Rattle.ground.specs.Store.{get}
-use Rattle.ground.specs.StoreLaws.{get-is}
+use Rattle.ground.specs.StoreLaws.{get-key}
 use Rattle.nucleus.specs.Commands.{one-of, option-I}
 use Rattle.nucleus.specs.Nucleus.{Nucleus, Request}
 use Rattle.nucleus.specs.Target.{is-file, is-isn, isn-in, found, file, part, record-at, is-free, last-given, free-isn, target, target-isn}
@@ -175,5 +175,4 @@ module _ (r : Request) (n : Nucleus) (i isn : ℕ) (here : place (definition-of 
       → get (definition-of n) (n .store) (key (r .call .file) isn) ≡ cond (record-at r n isn) (some (record-of (file r n) (part r n) isn)) none
   unfolding records.get
   slot-is small room =
-      get-is (definition-of n) (n .store) room (key (r .call .file) isn)
-      ∙ rw (file-of-key (r .call .file) isn small, isn-of-key (r .call .file) isn small, here)
+      get-key (definition-of n) (n .store) room (r .call .file) isn i small here ∙ rw here

@@ -2,32 +2,29 @@
 -- What `held` does to the queue is asked here (`Holding`).
 -- Assumes nothing.
 use Prim.Native.Nat.{ℕ, _≤_, _<_}
-use native.Mathlib.Omega.{arith}
 use mathlib.Core.Path.{_≡_, refl, sym, ap, subst, subst₂, _∙_}
 use mathlib.Core.Bool.{Bool, true, false, cond}
 use mathlib.Core.List.{List, map}
 use mathlib.Core.Option.{none, some}
-use lib.ListN.{length, drop, getD, set}
+use lib.ListN.{length, getD}
 use lib.Seq.{map-set-same}
 use Rattle.lists.specs.Folds.{all}
 use Rattle.definition.specs.Shape.{DefinitionShape}
 use Rattle.definition.specs.declared.Definition.{Definition}
 use Rattle.layout.specs.Layout.{store-size, place}
-use Rattle.layout.specs.declared.Found.{Found}
 use Rattle.layout.specs.declared.Found.the-variants as found-at
 use Rattle.store.specs.Store.{record-of}
 use Rattle.queue.specs.Queue.{mark as mark-entry, entries, change}
 use Rattle.queue.specs.Laws.{no-entry, entries-change}
 use Rattle.queue.specs.declared.Entry.{Entry}
-use Rattle.queue.specs.declared.Lookup.{Lookup}
 use Rattle.queue.specs.declared.Lookup.the-variants.{Held}
 use Rattle.hold.specs.Hold.{settled, first-change-queue}
 use Rattle.transactions.specs.Slots.{Slot}
 use Rattle.transactions.specs.Machine.{Entry as MachineEntry, with-hold, mark}
 use Rattle.ground.specs.Lists.{all-over}
-use Rattle.ground.specs.Keys.{isn-bound, key, file-of-key, isn-of-key}
+use Rattle.ground.specs.Keys.{isn-bound, key}
 use Rattle.ground.specs.Store.{get, put-in, put}
-use Rattle.ground.specs.StoreLaws.{put-is, put-length-same, put-past}
+use Rattle.ground.specs.StoreLaws.{put-key}
 use Rattle.ground.specs.Queue.{queue-of, Made}
 use Rattle.ground.specs.Reading.{found-inside}
 use Rattle.ground.specs.FirstChange.{queue-first-change}
@@ -151,7 +148,7 @@ module _ (capacity : ℕ) (r : Request) (n : Nucleus) (s : DefinitionShape (defi
 
   -- the file's part with a slot is the store with it
   part-put : (x : Slot) → store-with (definition-of n) (found r n) (n .store) (put-in (file r n) (part r n) isn x) ≡ put (definition-of n) (n .store) k x
-  part-put x = rw (put-is (definition-of n) (n .store) room k x, file-of-key (r .call .file) isn (t .small), isn-of-key (r .call .file) isn (t .small), t .found)
+  part-put x = rw (put-key (definition-of n) (n .store) room (r .call .file) isn (t .at) (t .small) (t .found) x, t .found)
 
   image-put : (x : Slot) → with-part-of r (put-in (file r n) (part r n) isn x) image .store ≡ put (definition-of n) (n .store) k x
   image-put x =

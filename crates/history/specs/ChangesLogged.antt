@@ -31,13 +31,13 @@ use Rattle.ground.specs.Store.{get}
 use Rattle.transactions.specs.Slots.{Slot}
 use Rattle.nucleus.specs.Commands.{one-of}
 use Rattle.nucleus.specs.Nucleus.{Nucleus, Request}
-use Rattle.nucleus.specs.Target.{found, file, part, record-at, target-isn}
+use Rattle.nucleus.specs.Target.{file, part, record-at, target-isn}
 use Rattle.nucleus.specs.Rows.{presence-refused, new-record}
 use Rattle.nucleus.specs.declared.Command.the-variants.{L1, L4, A1, E1, N1, N2}
 use Rattle.history.specs.Journal.{Update, replace, erase, add, apply}
 use Rattle.history.specs.Kept.{definition-of}
 use Rattle.history.specs.Accepted.{Accepted}
-use Rattle.history.specs.Changes.{Changes, replaces, erases, adds, adds-there, rest-fails, Aim, file-is, slot-is}
+use Rattle.history.specs.Changes.{Changes, replaces, erases, adds, adds-there, rest-fails, Aim, slot-is}
 
 -- ---- what the journal logs, and what comes of it
 abbrev pub update-of : (r : Request) → Changes r → Update

@@ -103,7 +103,7 @@ module _ (lent : List ℕ) (n : Nucleus) (j : Journal) (r : Request) (p : Passed
         ≡ record { store = m .store; queue = queue-of d (m .queue) (m .images) (m .state .count) }
     unfolding machine.act
     moved = λ i. record {
-      store = sym (ch .store ∙ ap (put d (n .store) key-at) (sym (machine-applied r n (k .sized .shape) capacity made t a c))) i;
+      store = sym (ch .store ∙ ap (put d (n .store) key-at) (sym (machine-applied r n (k .sized .shape) (k .sized .valid) capacity made t a c))) i;
       queue = sym (ch .queue) i;
     }
 
@@ -112,7 +112,7 @@ module _ (lent : List ℕ) (n : Nucleus) (j : Journal) (r : Request) (p : Passed
     invariant-here =
         rw (moved, log-change d lent u (r .call .file) isn (update-of r c) (j .changes)) at
         (kept-act (ground-of lent n) (laws-of capacity lent n (k .sized)) (seen lent n) (logged (j .changes)) (k .invariant) (machine.change u key-at (file-update r c))
-        (change-allowed r n (k .sized .shape) capacity made t a c lent))
+        (change-allowed r n (k .sized .shape) (k .sized .valid) capacity made t a c lent))
 
     -- ---- and all else
     sized-here : Sized capacity d (m .store) (m .queue) (m .images) (m .state .count)
