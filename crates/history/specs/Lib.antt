@@ -29,3 +29,4 @@ pub mod Stepping
 pub mod Resting
 pub mod Records
 pub mod Theorem
+pub mod Feeding
