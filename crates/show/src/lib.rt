@@ -13,6 +13,22 @@ pub fn number(n: u64) {
     io::print_decimal(STDOUT_FILENO, n);
 }
 
+pub fn yes_or_no(b: bool) {
+    if b {
+        text(b"yes");
+    } else {
+        text(b"no");
+    }
+}
+
+// What a line is about: a word and a number.
+pub fn title(word: &[u8], n: u64) {
+    text(word);
+    text(b" ");
+    number(n);
+    text(b": ");
+}
+
 // Bytes in hexadecimal.
 pub fn bytes(s: &[u8]) {
     let mut i = 0;
@@ -20,6 +36,12 @@ pub fn bytes(s: &[u8]) {
         io::print_hex(STDOUT_FILENO, wide(s[i]), 2);
         i += 1;
     }
+}
+
+// Bytes in hexadecimal, and the end of the line.
+pub fn line(s: &[u8]) {
+    bytes(s);
+    text(b"\n");
 }
 
 // The first `count` bytes in hexadecimal, or all where there are fewer.

@@ -15,9 +15,7 @@ fn first_file(table: &[u8]) -> File {
 fn judge(table: &[u8], format: &[u8], room: usize) {
     let f = first_file(table);
     show::text(format);
-    show::text(b" in ");
-    show::number(room as u64);
-    show::text(b": ");
+    show::title(b" in", room as u64);
     if !elements::format_valid(f, format) {
         show::text(b"41\n");
         return;
@@ -34,12 +32,16 @@ fn judge(table: &[u8], format: &[u8], room: usize) {
     show::text(b"\n");
 }
 
+fn name(what: &[u8], format: &[u8]) {
+    show::text(what);
+    show::text(format);
+    show::text(b" ");
+}
+
 // Values go into the record by a format buffer: the record after it, or 55.
 fn put(table: &[u8], format: &[u8], values: &[u8], content: &mut [u8]) {
     let f = first_file(table);
-    show::text(b"put ");
-    show::text(format);
-    show::text(b" ");
+    name(b"put ", format);
     show::bytes(values);
     show::text(b" ");
     if !fields::values_allowed(f, format, values) {
@@ -47,8 +49,7 @@ fn put(table: &[u8], format: &[u8], values: &[u8], content: &mut [u8]) {
         return;
     }
     fields::write_fields(f, format, values, content);
-    show::bytes(content);
-    show::text(b"\n");
+    show::line(content);
 }
 
 // Values come out of the record by a format buffer: how many bytes, and those.
@@ -56,9 +57,7 @@ fn get(table: &[u8], format: &[u8], content: &[u8]) {
     let f = first_file(table);
     let mut buffer = [0u8; 32];
     let n = fields::read_fields(f, format, content, &mut buffer);
-    show::text(b"get ");
-    show::text(format);
-    show::text(b" ");
+    name(b"get ", format);
     show::number(n as u64);
     show::text(b" ");
     show::front(&buffer, n);
@@ -69,8 +68,7 @@ fn nulls(table: &[u8], content: &mut [u8]) {
     let f = first_file(table);
     fields::put_nulls(f, content);
     show::text(b"nulls ");
-    show::bytes(content);
-    show::text(b"\n");
+    show::line(content);
 }
 
 // Document 01, 'The house call list': RC unique, HH.
