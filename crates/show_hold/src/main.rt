@@ -2,8 +2,8 @@
 // User 2 holds ISN 3; user 1 holds ISN 1, where a record is, and ISN 2, where none is, changes both, and is backed out. The gate holds what is
 // printed to the file stdout.
 use definition::Definition;
+use entries::Entry;
 use images::Removal;
-use queue::Entry;
 use queue::Lookup;
 
 fn house() -> Definition {
@@ -12,7 +12,7 @@ fn house() -> Definition {
 }
 
 fn print_entry(word: u64) {
-    let e = queue::unpack(word);
+    let e = entries::unpack(word);
     show::title(b"entry of user", e.user as u64);
     show::number(e.isn as u64);
     if e.changed {
@@ -68,7 +68,7 @@ fn print_held_by(queue: &[u64], user: u8) {
 fn print_repeated(queue: &[u64], count: usize) {
     show::title(b"among", count as u64);
     show::text(b"repeated: ");
-    show::yes_or_no(queue::repeated(queue, count));
+    show::yes_or_no(repeats::repeated(queue, count));
     show::text(b"\n");
 }
 

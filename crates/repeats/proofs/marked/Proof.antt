@@ -1,8 +1,8 @@
 -- `marked` meets its contract. Assumes nothing.
-use Rattle.queue.specs.Marks.{marked}
+use Rattle.repeats.specs.Marks.{marked}
 use borrow.Author.Needs.{needs}
-use Rattle.queue.proofs.marked.Statement.{statement}
-use Rattle.queue.proofs.marked.Tie as tie
+use Rattle.repeats.proofs.marked.Statement.{statement}
+use Rattle.repeats.proofs.marked.Tie as tie
 
 mul-result : tie.Need-mul-result
 mul-result c = search needs

@@ -7,12 +7,13 @@ use native.Mathlib.Omega.{arith}
 use borrow.Author.Needs.{needs}
 use mathlib.Core.Bool.{true}
 use Rattle.lists.specs.Folds.{distinct}
-use Rattle.queue.specs.Queue.{alike, entries, repeated}
-use Rattle.queue.specs.Marks.{key, key-small, set-mark, length-set-mark, all-marked}
-use Rattle.queue.specs.Laws.{entries-all}
-use Rattle.queue.specs.Passed.{repeated-here, distinct-so-far, marked-so-far}
-use Rattle.queue.proofs.repeated.Statement.{statement}
-use Rattle.queue.proofs.repeated.Tie as tie
+use Rattle.entries.specs.Entries.{entries}
+use Rattle.repeats.specs.Repeats.{alike, repeated}
+use Rattle.repeats.specs.Marks.{key, key-small, set-mark, length-set-mark, all-marked}
+use Rattle.entries.specs.Laws.{entries-all}
+use Rattle.repeats.specs.Passed.{repeated-here, distinct-so-far, marked-so-far}
+use Rattle.repeats.proofs.repeated.Statement.{statement}
+use Rattle.repeats.proofs.repeated.Tie as tie
 
 abbrev Inv-loop : tie.InvT-loop
 Inv-loop queue count n table₀ i₀ table i = (n ≡ min count (length queue)) × (i ≤ n) × (length table ≡ 1024) × (all-marked table (entries queue i) ≡ true) × (distinct alike (entries queue i) ≡ true)

@@ -6,13 +6,14 @@ use mathlib.Core.Path.{_≡_, _∙_}
 use mathlib.Core.Bool.{true, false, not, _&&_}
 use mathlib.Core.List.{List, [], _∷_}
 use lib.ListN.{length, drop, getD}
-use Rattle.lists.specs.Folds.{any, distinct}
+use Rattle.lists.specs.Folds.{any, distinct, all-append}
 use Rattle.lists.specs.Tests.{and-false}
-use Rattle.queue.specs.Queue.{unpack-of, is-of, alike, entries, repeated}
-use Rattle.queue.specs.Lists.{all-append, distinct-last, distinct-front}
-use Rattle.queue.specs.Marks.{key, key-small, marked, set-mark, all-marked, all-marked-kept, set-mark-here}
-use Rattle.queue.specs.Laws.{entries-last, entries-front}
-use Rattle.queue.specs.declared.Entry.{Entry}
+use Rattle.entries.specs.Entries.{unpack-of, is-of, entries}
+use Rattle.repeats.specs.Repeats.{alike, repeated}
+use Rattle.repeats.specs.Lists.{distinct-last, distinct-front}
+use Rattle.repeats.specs.Marks.{key, key-small, marked, set-mark, all-marked, all-marked-kept, set-mark-here}
+use Rattle.entries.specs.Laws.{entries-last, entries-front}
+use Rattle.entries.specs.declared.Entry.{Entry}
 
 module _ (words : List ℕ) (count i : ℕ) (e : Entry) (now : e ≡ unpack-of (getD words i 0)) (more : i < min count (length words)) where
   passed : distinct alike (entries words (i + 1)) ≡ (distinct alike (entries words i) && not (any (is-of (e .file) (e .isn)) (entries words i)))

@@ -2,12 +2,12 @@
 use mathlib.Core.Path.{sym, ap, _∙_}
 use native.Mathlib.Omega.{arith}
 use borrow.Author.Tests.{not-true}
-use Rattle.queue.specs.Queue.{entries, holder}
-use Rattle.queue.specs.Marks.{key, key-small, marked, unmarked-none}
+use Rattle.entries.specs.Entries.{entries}
+use Rattle.repeats.specs.Marks.{key, key-small, marked, unmarked-none}
 use Rattle.queue.specs.Laws.{is-held, held-any}
 use borrow.Author.Needs.{needs}
-use Rattle.queue.proofs.held_before.Statement.{statement}
-use Rattle.queue.proofs.held_before.Tie as tie
+use Rattle.repeats.proofs.held_before.Statement.{statement}
+use Rattle.repeats.proofs.held_before.Tie as tie
 
 key-requires : tie.Need-key-requires
 key-requires c κs = search needs

@@ -1,8 +1,8 @@
 -- `pack` meets its contract. Assumes nothing.
-use Rattle.queue.specs.Queue.{pack-of}
+use Rattle.entries.specs.Entries.{pack-of}
 use borrow.Author.Needs.{needs}
-use Rattle.queue.proofs.pack.Statement.{statement}
-use Rattle.queue.proofs.pack.Tie as tie
+use Rattle.entries.proofs.pack.Statement.{statement}
+use Rattle.entries.proofs.pack.Tie as tie
 
 wide8-requires : tie.Need-wide8-requires
 wide8-requires c κs = search needs

@@ -14,8 +14,8 @@ use lib.Seq.{getD-set-same, getD-set-other}
 use borrow.Author.Tests.{eqb-true, eqb-false, eq-eqb}
 use Rattle.lists.specs.Folds.{all, any}
 use Rattle.lists.specs.Tests.{not-both, Outcome, holds, fails, outcome, and-left, and-right}
-use Rattle.queue.specs.Queue.{is-of}
-use Rattle.queue.specs.declared.Entry.{Entry}
+use Rattle.entries.specs.Entries.{is-of}
+use Rattle.entries.specs.declared.Entry.{Entry}
 
 -- the place of an entry's mark
 unfoldable pub key : Entry → ℕ

@@ -3,10 +3,10 @@ use Prim.Native.Nat.{_%_, _^_}
 use native.Mathlib.Nat.{one-mul}
 use native.Mathlib.Omega.{arith}
 use lib.Pow.{shl-exact}
-use Rattle.queue.specs.Marks.{set-mark}
+use Rattle.repeats.specs.Marks.{set-mark}
 use borrow.Author.Needs.{needs}
-use Rattle.queue.proofs.set_mark.Statement.{statement}
-use Rattle.queue.proofs.set_mark.Tie as tie
+use Rattle.repeats.proofs.set_mark.Statement.{statement}
+use Rattle.repeats.proofs.set_mark.Tie as tie
 
 mul-table : tie.Need-mul-table
 mul-table c = search needs

@@ -1,8 +1,8 @@
 -- `unpack` meets its contract. Assumes nothing.
-use Rattle.queue.specs.Queue.{unpack-of}
+use Rattle.entries.specs.Entries.{unpack-of}
 use borrow.Author.Needs.{needs}
-use Rattle.queue.proofs.unpack.Statement.{statement}
-use Rattle.queue.proofs.unpack.Tie as tie
+use Rattle.entries.proofs.unpack.Statement.{statement}
+use Rattle.entries.proofs.unpack.Tie as tie
 
 cast-t3 : tie.Need-cast-t3
 cast-t3 c = search needs

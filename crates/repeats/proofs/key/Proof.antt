@@ -1,8 +1,8 @@
 -- `key` meets its contract. Assumes nothing.
-use Rattle.queue.specs.Marks.{key}
+use Rattle.repeats.specs.Marks.{key}
 use borrow.Author.Needs.{needs}
-use Rattle.queue.proofs.key.Statement.{statement}
-use Rattle.queue.proofs.key.Tie as tie
+use Rattle.repeats.proofs.key.Statement.{statement}
+use Rattle.repeats.proofs.key.Tie as tie
 
 cast-result : tie.Need-cast-result
 cast-result c = search needs

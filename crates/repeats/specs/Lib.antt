@@ -1,0 +1,6 @@
+pub mod Lists
+pub mod Repeats
+pub mod Marks
+pub mod Laws
+pub mod Passed
+pub mod Examples
