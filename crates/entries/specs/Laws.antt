@@ -10,21 +10,10 @@ use mathlib.Core.List.{List, [], _∷_, _++_, map, map-append}
 use lib.Dec.{eqb}
 use lib.ListN.{length, take, drop, getD, set, length-take, take-append-drop, length-map, drop-of-length-le, List·getD-map}
 use lib.Seq.{drop-cons, getD-take, take-set-le, take-set-lt, take-suc, take-take}
+use Rattle.lists.specs.Maps.{take-map, map-set}
 use Rattle.lists.specs.Parts.{take-least}
 use Rattle.entries.specs.Entries.{bit, pack-of, unpack-of, entries}
 use Rattle.entries.specs.declared.Entry.{Entry}
-
--- ---- a list and its image under a function
-module _ {A B : Type 0} (f : A → B) where
-  take-map : (i : ℕ) (l : List A) → take i (map f l) ≡ map f (take i l)
-  take-map zero l = refl
-  take-map (suc i) [] = refl
-  take-map (suc i) (x ∷ l) = ap (λ t. f x ∷ t) (take-map i l)
-
-  map-set : (l : List A) (i : ℕ) (x : A) → map f (set l i x) ≡ set (map f l) i (f x)
-  map-set [] i x = refl
-  map-set (y ∷ l) zero x = refl
-  map-set (y ∷ l) (suc i) x = ap (λ t. f y ∷ t) (map-set l i x)
 
 -- ---- an entry and its word
 -- what every entry has: numbers that fit their bytes

@@ -1,5 +1,7 @@
 pub mod Tests
 pub mod Folds
+pub mod Distinct
+pub mod Maps
 pub mod Rest
 pub mod Sift
 pub mod Numbers

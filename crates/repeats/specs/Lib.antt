@@ -1,4 +1,3 @@
-pub mod Lists
 pub mod Repeats
 pub mod Marks
 pub mod Laws

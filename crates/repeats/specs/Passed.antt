@@ -10,7 +10,7 @@ use Rattle.lists.specs.Folds.{any, distinct, all-append}
 use Rattle.lists.specs.Tests.{and-false}
 use Rattle.entries.specs.Entries.{unpack-of, is-of, entries}
 use Rattle.repeats.specs.Repeats.{alike, repeated}
-use Rattle.repeats.specs.Lists.{distinct-last, distinct-front}
+use Rattle.lists.specs.Distinct.{distinct-last, distinct-front}
 use Rattle.repeats.specs.Marks.{key, key-small, marked, set-mark, all-marked, all-marked-kept, set-mark-here}
 use Rattle.entries.specs.Laws.{entries-last, entries-front}
 use Rattle.entries.specs.declared.Entry.{Entry}

@@ -1,11 +1,11 @@
--- Laws of `distinct` for a list in two parts.
+-- No two alike in a list of two parts.
 -- Assumes nothing.
 use mathlib.Core.Path.{_≡_, refl}
 use mathlib.Core.Bool.{Bool, true, false, not, _&&_, _||_, and-true, or-false}
 use mathlib.Core.List.{List, [], _∷_, _++_}
 use borrow.Author.Tests.{not-false}
 use Rattle.lists.specs.Folds.{any, distinct, any-append}
 use Rattle.lists.specs.Tests.{not-both, Outcome, holds, fails, outcome, and-false}
 
 -- not (a or b), d, and not c, in another order
 regroup : (a b c d : Bool) → (not (a || b) && (d && not c)) ≡ ((not a && d) && not (b || c))

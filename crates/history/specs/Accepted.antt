@@ -1,0 +1,68 @@
+-- A call that no row of the response table refuses: what each row's failing says, for whoever reasons about its effect.
+-- Assumes nothing.
+use mathlib.Core.Path.{_≡_, refl}
+use mathlib.Core.Bool.{Bool, true, false}
+use mathlib.Core.List.{List, [], _∷_}
+use mathlib.Core.Option.{Option, none, some}
+use Rattle.lists.specs.Tests.{cond, not-both}
+use Rattle.lists.specs.Folds.{Each}
+use Rattle.nucleus.specs.Nucleus.{Nucleus, Request}
+use Rattle.nucleus.specs.Rows.{Row, first-cause, rows-last, access-refused, file-unknown, isn-invalid, format-refused, field-twice, record-length-refused, value-refused, none-found, held-elsewhere, presence-refused, not-held, release-refused, file-full, limit-reached, queue-full, value-taken}
+use Rattle.nucleus.specs.declared.Response.{Response}
+
+-- whether a cause was found
+abbrev pub is-cause : Option Response → Bool
+is-cause none = false
+is-cause (some c) = true
+
+none-held : (r : Row) (rs : List Row) → is-cause (first-cause (r ∷ rs)) ≡ false → (r .holds ≡ false) × (is-cause (first-cause rs) ≡ false)
+none-held r rs h = go (r .holds) refl
+  where
+    go : (b : Bool) → r .holds ≡ b → (b ≡ false) × (is-cause (first-cause rs) ≡ false)
+    go true e = absurd (not-both true refl (rw e at h))
+    go false e = (refl, rw e at h)
+
+pub no-row : (rs : List Row) → is-cause (first-cause rs) ≡ false → Each (λ r. r .holds ≡ false) rs
+no-row [] h = tt
+no-row (r ∷ rs) h = let p = none-held r rs h in (p .0, no-row rs (p .1))
+
+-- the rows of a call in its last list, all of them failing
+pub record Accepted (r : Request) (n : Nucleus) : Type 0 where
+  pub access : access-refused r n ≡ false
+  pub file : file-unknown r n ≡ false
+  pub isn : isn-invalid r n ≡ false
+  pub format : format-refused r n ≡ false
+  pub once : field-twice r n ≡ false
+  pub length : record-length-refused r n ≡ false
+  pub values : value-refused r n ≡ false
+  pub found : none-found r n ≡ false
+  pub mine : held-elsewhere r n ≡ false
+  pub presence : presence-refused r n ≡ false
+  pub held : not-held r n ≡ false
+  pub unchanged : release-refused r n ≡ false
+  pub free : file-full r n ≡ false
+  pub limit : limit-reached r n ≡ false
+  pub room : queue-full r n ≡ false
+  pub unique : value-taken r n ≡ false
+
+pub accepted : (r : Request) (n : Nucleus) → is-cause (first-cause (rows-last r n)) ≡ false → Accepted r n
+accepted r n h =
+    let e = no-row (rows-last r n) h in
+    record {
+      access = e .0;
+      file = e .1 .0;
+      isn = e .1 .1 .0;
+      format = e .1 .1 .1 .0;
+      once = e .1 .1 .1 .1 .0;
+      length = e .1 .1 .1 .1 .1 .0;
+      values = e .1 .1 .1 .1 .1 .1 .0;
+      found = e .1 .1 .1 .1 .1 .1 .1 .0;
+      mine = e .1 .1 .1 .1 .1 .1 .1 .1 .0;
+      presence = e .1 .1 .1 .1 .1 .1 .1 .1 .1 .0;
+      held = e .1 .1 .1 .1 .1 .1 .1 .1 .1 .1 .0;
+      unchanged = e .1 .1 .1 .1 .1 .1 .1 .1 .1 .1 .1 .0;
+      free = e .1 .1 .1 .1 .1 .1 .1 .1 .1 .1 .1 .1 .0;
+      limit = e .1 .1 .1 .1 .1 .1 .1 .1 .1 .1 .1 .1 .1 .0;
+      room = e .1 .1 .1 .1 .1 .1 .1 .1 .1 .1 .1 .1 .1 .1 .0;
+      unique = e .1 .1 .1 .1 .1 .1 .1 .1 .1 .1 .1 .1 .1 .1 .1 .0;
+    }

@@ -1,0 +1,184 @@
+-- What an accepted A1, E1, N1 or N2 leaves: the store with the new slot at its key, and the queue of the abstract machine with its entry marked.
+-- What `held` does to the queue is asked here (`Holding`).
+-- Assumes nothing.
+use Prim.Native.Nat.{ℕ, _≤_, _<_}
+use native.Mathlib.Omega.{arith}
+use mathlib.Core.Path.{_≡_, refl, sym, ap, subst, subst₂, _∙_}
+use mathlib.Core.Bool.{Bool, true, false, cond}
+use mathlib.Core.List.{List, map}
+use mathlib.Core.Option.{none, some}
+use lib.ListN.{length, drop, getD, set}
+use lib.Seq.{map-set-same}
+use Rattle.lists.specs.Folds.{all}
+use Rattle.definition.specs.Shape.{DefinitionShape}
+use Rattle.definition.specs.declared.Definition.{Definition}
+use Rattle.layout.specs.Layout.{store-size, place}
+use Rattle.layout.specs.declared.Found.{Found}
+use Rattle.layout.specs.declared.Found.the-variants as found-at
+use Rattle.store.specs.Store.{record-of}
+use Rattle.queue.specs.Queue.{mark as mark-entry, change}
+use Rattle.entries.specs.Entries.{entries}
+use Rattle.entries.specs.Laws.{no-entry}
+use Rattle.queue.specs.Laws.{entries-change}
+use Rattle.entries.specs.declared.Entry.{Entry}
+use Rattle.queue.specs.declared.Lookup.{Lookup}
+use Rattle.queue.specs.declared.Lookup.the-variants.{Held}
+use Rattle.hold.specs.Hold.{settled, first-change-queue}
+use Rattle.transactions.specs.Slots.{Slot}
+use Rattle.transactions.specs.Machine.{Entry as MachineEntry, with-hold, mark}
+use Rattle.ground.specs.Lists.{all-over}
+use Rattle.ground.specs.Keys.{isn-bound, key, file-of-key, isn-of-key}
+use Rattle.ground.specs.Store.{get, put-in, put}
+use Rattle.ground.specs.StoreLaws.{put-is, put-length-same, put-past}
+use Rattle.ground.specs.Queue.{queue-of, Made}
+use Rattle.ground.specs.Reading.{found-inside}
+use Rattle.ground.specs.FirstChange.{queue-first-change}
+use Rattle.ground.specs.Kept.{made-first-change, made-put}
+use Rattle.nucleus.specs.Nucleus.{Nucleus, Request, entries-of}
+use Rattle.nucleus.specs.Target.{store-with, found, file, part, record-at, holder-of, target-isn}
+use Rattle.nucleus.specs.Rows.{new-record}
+use Rattle.nucleus.specs.Effects.{held, imaged-at, imaged, with-part-of, written, erased}
+use Rattle.history.specs.Kept.{definition-of}
+use Rattle.history.specs.Changes.{Aim, slot-is}
+
+-- ---- what is asked of a hold: the caller's entry is in the queue, and nothing else has changed
+pub record Holding (capacity : ℕ) (r : Request) (n : Nucleus) (isn : ℕ) : Type 0 where
+  pub at : ℕ
+  pub entry : Entry
+  pub found : holder-of r (held r isn n) isn ≡ Held at entry
+  pub definition : definition-of (held r isn n) ≡ definition-of n
+  pub store : held r isn n .store ≡ n .store
+  pub queue : queue-of (definition-of (held r isn n)) (held r isn n .queue) (held r isn n .images) (held r isn n .state .count)
+      ≡ with-hold (r .call .user) (key (r .call .file) isn) (queue-of (definition-of n) (n .queue) (n .images) (n .state .count))
+  pub made : Made (definition-of (held r isn n)) capacity (held r isn n .store) (held r isn n .queue) (held r isn n .images) (held r isn n .state .count)
+
+-- ---- whose an entry is, and of what
+abbrev pub holding : Entry → ℕ × ℕ × ℕ
+holding e = (e .user, e .file, e .isn)
+
+first-change-same : (words : List ℕ) (count at : ℕ) (existed : Bool) → at < count
+    → map holding (entries (first-change-queue words at existed) count) ≡ map holding (entries words count)
+unfolding first-change-queue
+first-change-same words count at existed inside = go (settled words at)
+  where
+    go : (b : Bool) → map holding (entries (cond b words (change words at existed)) count) ≡ map holding (entries words count)
+    go true = refl
+    go false =
+        ap (map holding) (entries-change words count at existed inside)
+        ∙ map-set-same holding (entries words count) at (mark-entry existed (getD (entries words count) at no-entry)) no-entry refl
+
+-- a test that looks at an entry's user only
+pub users-same : (p : ℕ → Bool) (es fs : List Entry) → map holding es ≡ map holding fs → all (λ e. p (e .user)) es ≡ all (λ e. p (e .user)) fs
+users-same p es fs h = sym (all-over holding (λ t. p (t .0)) es) ∙ ap (all (λ t. p (t .0))) h ∙ all-over holding (λ t. p (t .0)) fs
+
+-- ---- the image of an entry that is found
+module _ (capacity : ℕ) (r : Request) (h : Nucleus) (s : DefinitionShape (definition-of h))
+    (made : Made (definition-of h) capacity (h .store) (h .queue) (h .images) (h .state .count))
+    (i isn at : ℕ) (e : Entry) (here : place (definition-of h) (r .call .file) ≡ found-at.At i) (small : isn < isn-bound) (found-here : holder-of r h isn ≡ Held at e) where
+  abbrev d : Definition
+  d = definition-of h
+
+  abbrev kept : Nucleus
+  kept = imaged-at r (Held at e) isn h
+
+  inside : at < h .state .count
+  inside = found-inside d (h .queue) (h .images) (h .state .count) (made .single) (r .call .file) isn at e found-here
+
+  queue-kept : queue-of d (kept .queue) (kept .images) (kept .state .count)
+      ≡ map (mark (key (r .call .file) isn) (get d (h .store) (key (r .call .file) isn))) (queue-of d (h .queue) (h .images) (h .state .count))
+  queue-kept =
+      queue-first-change d s capacity (h .store) (h .queue) (h .images) (h .state .count) made (r .call .file) isn at e small found-here (record-at r h isn)
+      (record-of (file r h) (part r h) isn) (slot-is r h i isn here small (made .store-room))
+
+  made-kept : Made d capacity (h .store) (kept .queue) (kept .images) (kept .state .count)
+  made-kept = made-first-change d capacity (h .store) (h .queue) (h .images) (h .state .count) made at (record-at r h isn) (record-of (file r h) (part r h) isn) inside
+
+  holding-kept : map holding (entries-of kept) ≡ map holding (entries-of h)
+  holding-kept = first-change-same (h .queue) (h .state .count) at (record-at r h isn) inside
+
+-- ---- the nucleus `m` that a change of the target's slot to `x` leaves
+pub record Changed (capacity : ℕ) (r : Request) (n : Nucleus) (x : Slot) (m : Nucleus) : Type 0 where
+  pub definition : definition-of m ≡ definition-of n
+  pub clock : m .state .clock ≡ held r (target-isn r n) n .state .clock
+  pub users : m .state .users ≡ held r (target-isn r n) n .state .users
+  pub data-kept : m .state .«et_data» ≡ held r (target-isn r n) n .state .«et_data»
+  pub count : m .state .count ≡ held r (target-isn r n) n .state .count
+  pub store : m .store ≡ put (definition-of n) (n .store) (key (r .call .file) (target-isn r n)) x
+  pub queue : queue-of (definition-of n) (m .queue) (m .images) (m .state .count)
+      ≡ map (mark (key (r .call .file) (target-isn r n)) (get (definition-of n) (n .store) (key (r .call .file) (target-isn r n))))
+      (with-hold (r .call .user) (key (r .call .file) (target-isn r n)) (queue-of (definition-of n) (n .queue) (n .images) (n .state .count)))
+  pub made : Made (definition-of n) capacity (m .store) (m .queue) (m .images) (m .state .count)
+  pub holds-same : map holding (entries-of m) ≡ map holding (entries-of (held r (target-isn r n) n))
+
+module _ (capacity : ℕ) (r : Request) (n : Nucleus) (s : DefinitionShape (definition-of n)) (t : Aim r n) (w : Holding capacity r n (target-isn r n)) where
+  abbrev isn : ℕ
+  isn = target-isn r n
+
+  abbrev k : ℕ
+  k = key (r .call .file) isn
+
+  abbrev h : Nucleus
+  h = held r isn n
+
+  abbrev image : Nucleus
+  image = imaged-at r (Held (w .at) (w .entry)) isn h
+
+  image-is : imaged r isn n ≡ image
+  unfolding imaged
+  image-is = ap (λ l. imaged-at r l isn h) (w .found)
+
+  shape-held : DefinitionShape (definition-of h)
+  shape-held = rw (w .definition) s
+
+  here-held : place (definition-of h) (r .call .file) ≡ found-at.At (t .at)
+  here-held = rw (w .definition) (t .found)
+
+  room : store-size (definition-of n) ≤ length (n .store)
+  room = rw (w .definition, w .store) at (w .made .store-room)
+
+  image-queue : queue-of (definition-of n) (image .queue) (image .images) (image .state .count)
+      ≡ map (mark k (get (definition-of n) (n .store) k)) (with-hold (r .call .user) k (queue-of (definition-of n) (n .queue) (n .images) (n .state .count)))
+  image-queue =
+      let q : List MachineEntry = with-hold (r .call .user) k (queue-of (definition-of n) (n .queue) (n .images) (n .state .count)) in
+      ap (λ x. queue-of x (image .queue) (image .images) (image .state .count)) (sym (w .definition))
+      ∙ queue-kept capacity r h shape-held (w .made) (t .at) isn (w .at) (w .entry) here-held (t .small) (w .found)
+      ∙ ap (map (mark k (get (definition-of h) (h .store) k))) (w .queue)
+      ∙ ap (λ x. map (mark k (get (definition-of h) x k)) q) (w .store) ∙ ap (λ x. map (mark k (get x (n .store) k)) q) (w .definition)
+
+  image-made : Made (definition-of n) capacity (n .store) (image .queue) (image .images) (image .state .count)
+  image-made =
+      subst₂ (λ x y. Made x capacity y (image .queue) (image .images) (image .state .count)) (w .definition) (w .store)
+      (made-kept capacity r h shape-held (w .made) (t .at) isn (w .at) (w .entry) here-held (t .small) (w .found))
+
+  -- the file's part with a slot is the store with it
+  part-put : (x : Slot) → store-with (definition-of n) (found r n) (n .store) (put-in (file r n) (part r n) isn x) ≡ put (definition-of n) (n .store) k x
+  part-put x = rw (put-is (definition-of n) (n .store) room k x, file-of-key (r .call .file) isn (t .small), isn-of-key (r .call .file) isn (t .small), t .found)
+
+  image-put : (x : Slot) → with-part-of r (put-in (file r n) (part r n) isn x) image .store ≡ put (definition-of n) (n .store) k x
+  image-put x =
+      let p : List ℕ = put-in (file r n) (part r n) isn x in
+      ap (λ y. store-with y (place y (r .call .file)) (h .store) p) (w .definition) ∙ ap (λ y. store-with (definition-of n) (found r n) y p) (w .store) ∙ part-put x
+
+  changed-image : (x : Slot) → Changed capacity r n x (with-part-of r (put-in (file r n) (part r n) isn x) image)
+  changed-image x = record {
+    definition = w .definition;
+    clock = refl;
+    users = refl;
+    data-kept = refl;
+    count = refl;
+    store = image-put x;
+    queue = image-queue;
+    made = rw (image-put x) (made-put (definition-of n) capacity (n .store) (image .queue) (image .images) (image .state .count) image-made s k x);
+    holds-same = holding-kept capacity r h shape-held (w .made) (t .at) isn (w .at) (w .entry) here-held (t .small) (w .found);
+  }
+
+  changed-slot : (x : Slot) → Changed capacity r n x (with-part-of r (put-in (file r n) (part r n) isn x) (imaged r isn n))
+  changed-slot x = subst (λ m. Changed capacity r n x (with-part-of r (put-in (file r n) (part r n) isn x) m)) (sym image-is) (changed-image x)
+
+  pub written-changed : Changed capacity r n (some (new-record r n isn)) (written r isn n)
+  unfolding written
+  written-changed = changed-slot (some (new-record r n isn))
+
+  pub erased-changed : Changed capacity r n none (erased r isn n)
+  unfolding erased
+  erased-changed = changed-slot none

@@ -1,0 +1,191 @@
+-- What is kept where a transaction ends: all entries of a user go, his changes stand or are struck, and he is in no transaction.
+-- Assumes nothing.
+use Prim.Native.Nat.{ℕ, _-_, _≤_}
+use native.Mathlib.Omega.{arith}
+use mathlib.Core.Path.{_≡_, refl, sym, ap, _∙_}
+use mathlib.Core.Bool.{Bool, true, false, not, _&&_, _||_}
+use mathlib.Core.List.{List, [], _∷_, map}
+use mathlib.Core.Option.{none}
+use lib.Dec.{eqb, ltb}
+use lib.ListN.{length, set, length-set}
+use borrow.Author.Tests.{not-true}
+use Rattle.lists.specs.Tests.{or-true, Outcome, holds, fails, outcome, and-left, and-right}
+use Rattle.lists.specs.Folds.{all}
+use Rattle.lists.specs.Sift.{keep, sift}
+use Rattle.definition.specs.Table.{files-of}
+use Rattle.definition.specs.declared.Definition.{Definition}
+use Rattle.images.specs.Images.{stays}
+use Rattle.images.specs.Laws.{entries-remove}
+use Rattle.images.specs.declared.Removal.{Removal}
+use Rattle.images.specs.declared.Removal.the-variants.{All}
+use Rattle.entries.specs.declared.Entry.{Entry}
+use Rattle.transactions.specs.Machine.{Laws, Machine, end, back-out, allowed}
+use Rattle.transactions.specs.Theorems.{Invariant, kept-act}
+use Rattle.ground.specs.Lists.{sift-is}
+use Rattle.ground.specs.Keys.{isn-bound}
+use Rattle.ground.specs.Ground.{laws}
+use Rattle.ground.specs.Queue.{Made}
+use Rattle.ground.specs.Entries.{made-fits}
+use Rattle.ground.specs.Kept.{made-remove, made-restore}
+use Rattle.ground.specs.Acts.{act-end, act-back-out}
+use Rattle.nucleus.specs.Users.{ended, with-transaction}
+use Rattle.nucleus.specs.Nucleus.{Nucleus, max-users, user-of, with-user, with-state, change-user, entries-of}
+use Rattle.nucleus.specs.Clock.{width-of, removed, restored, backed-out}
+use Rattle.nucleus.specs.declared.User.{User}
+use Rattle.history.specs.Journal.{Journal, Change, member, strikes, commits, struck}
+use Rattle.history.specs.Journal as journal
+use Rattle.history.specs.Updates.{updates, logged}
+use Rattle.history.specs.Kept.{Kept, Sized, People, Told, definition-of, ground-of, seen, user-sound, is-active, entry-active, change-sound, member-of, one-of-users}
+use Rattle.history.specs.UpdateLaws.{update-laws}
+use Rattle.history.specs.People.{all-set, sound-idle, active-other, members-set, member-is}
+use Rattle.history.specs.Logs.{log-end, log-back-out}
+
+-- ---- what is left of a list passes a test that those that stay pass
+module _ {A : Type 0} (p r q : A → Bool) (f : (x : A) → p x ≡ true → r x ≡ true → q x ≡ true) where
+  pub all-left : (xs : List A) → all p xs ≡ true → all q (sift r xs) ≡ true
+  all-left [] h = refl
+  all-left (x ∷ xs) h = go (outcome (r x)) (all-left xs (and-right (p x) (all p xs) h))
+    where
+      go : Outcome (r x) → all q (sift r xs) ≡ true → all q (sift r (x ∷ xs)) ≡ true
+      go (holds t) i = rw (t, f x (and-left (p x) (all p xs) h) t) i
+      go (fails t) i = rw t i
+
+-- ---- laws of the machine's ground, of a sized nucleus
+pub laws-of : (capacity : ℕ) (lent : List ℕ) (n : Nucleus) → Sized capacity (definition-of n) (n .store) (n .queue) (n .images) (n .state .count) → Laws (ground-of lent n)
+laws-of capacity lent n s = laws (definition-of n) (s .shape) (s .valid) (updates (definition-of n)) (update-laws (definition-of n) (s .shape) (s .valid)) lent
+
+-- ---- the users, where one of them ends his transaction
+module _ (clock : ℕ) (us : List User) (u : ℕ) (least : 1 ≤ u) (most : u ≤ max-users) (x : User) (full : length us ≡ max-users) (idle : x .active ≡ false) where
+  abbrev us′ : List User
+  us′ = set us (u - 1) x
+
+  pub people-ended : (es : List Entry) → People clock us es → People clock us′ (sift (stays (All u)) es)
+  people-ended es p = record {
+    user-count = length-set us (u - 1) x ∙ full;
+    users-sound = all-set (user-sound clock) us (u - 1) x (p .users-sound) (sound-idle clock x idle);
+    entries-active =
+        all-left (entry-active us) (stays (All u)) (entry-active us′) (λ e a s. active-other us full u least most x (e .user) (not-true _ s) ∙ a) es (p .entries-active);
+  }
+
+  -- a change that is not his, or not open any more
+  other-change : (c : Change) → (c .uncommitted && eqb (c .user) u) ≡ false → change-sound us c ≡ true → change-sound us′ c ≡ true
+  other-change c n h = go (outcome (c .uncommitted))
+    where
+      small : ltb (c .isn) isn-bound ≡ true
+      small = and-left (ltb (c .isn) isn-bound) (not (c .uncommitted) || is-active us (c .user)) h
+
+      go : Outcome (c .uncommitted) → change-sound us′ c ≡ true
+      go (holds t) = rw (small, t) (active-other us full u least most x (c .user) (rw t at n) ∙ rw (small, t) at h)
+      go (fails t) = rw (small, t)
+
+  module _ (j : Journal) (t : Told clock us j) (same : member-of x ≡ record { limit = member j u .limit; start = none }) where
+    told-members : set (j .members) (u - 1) (record { limit = member j u .limit; start = none }) ≡ map member-of us′
+    told-members = ap (set (j .members) (u - 1)) (sym same) ∙ ap (λ ms. set ms (u - 1) (member-of x)) (t .same-members) ∙ sym (members-set us full u least most x)
+
+    pub told-struck : Told clock us′ (struck u j)
+    unfolding struck
+    told-struck = record {
+      same-clock = t .same-clock;
+      same-members = told-members;
+      changes-sound = all-left (change-sound us) (λ c. not (strikes u c)) (change-sound us′) (λ c h s. other-change c (not-true _ s) h) (j .changes) (t .changes-sound);
+    }
+
+    pub told-ended : Told clock us′ (journal.ended u j)
+    unfolding journal.ended
+    told-ended = record {
+      same-clock = t .same-clock;
+      same-members = told-members;
+      changes-sound = committed (j .changes) (t .changes-sound);
+    }
+      where
+        closes : (a b : Bool) → ((a && not b) && b) ≡ false
+        closes true true = refl
+        closes true false = refl
+        closes false true = refl
+        closes false false = refl
+
+        commit-sound : (c : Change) → change-sound us c ≡ true → change-sound us (commits u c) ≡ true
+        commit-sound c h = go (outcome (c .uncommitted))
+          where
+            small : ltb (c .isn) isn-bound ≡ true
+            small = and-left (ltb (c .isn) isn-bound) (not (c .uncommitted) || is-active us (c .user)) h
+
+            go : Outcome (c .uncommitted) → change-sound us (commits u c) ≡ true
+            go (holds o) = let a : is-active us (c .user) ≡ true = rw (small, o) at h in rw (small, a) (or-true (not (c .uncommitted && not (eqb (c .user) u))))
+            go (fails o) = rw (small, o)
+
+        committed : (cs : List Change) → all (change-sound us) cs ≡ true → all (change-sound us′) (map (commits u) cs) ≡ true
+        committed [] h = refl
+        committed (c ∷ cs) h =
+            rw (
+              other-change (commits u c) (closes (c .uncommitted) (eqb (c .user) u)) (commit-sound c (and-left (change-sound us c) (all (change-sound us) cs) h)),
+              committed cs (and-right (change-sound us c) (all (change-sound us) cs) h),
+            )
+
+-- ---- of the nucleus
+module _ (capacity : ℕ) (lent : List ℕ) (n : Nucleus) (j : Journal) (k : Kept capacity lent n j) (u : ℕ) (least : 1 ≤ u) (most : u ≤ max-users) where
+  abbrev d : Definition
+  d = definition-of n
+
+  entries-left : entries-of (removed (All u) n) ≡ sift (stays (All u)) (entries-of n)
+  unfolding removed
+  entries-left =
+      entries-remove (n .queue) (n .images) (n .state .count) (width-of n) (All u) (made-fits d capacity (n .store) (n .queue) (n .images) (n .state .count) (k .sized .made))
+      ∙ sift-is (stays (All u)) (entries-of n)
+
+  -- the table and what was lent, with what is left of the queue
+  sized-left : (store : List ℕ) → Made d capacity store (n .queue) (n .images) (n .state .count) → Sized capacity d store (removed (All u) n .queue) (removed (All u) n .images) (removed (All u) n .state .count)
+  unfolding removed
+  sized-left store m = record {
+    shape = k .sized .shape;
+    valid = k .sized .valid;
+    capacity-sound = k .sized .capacity-sound;
+    made = made-remove d capacity store (n .queue) (n .images) (n .state .count) m (All u);
+  }
+
+  end-allowed : (m : Machine (ground-of lent n)) → allowed (ground-of lent n) (end u) m ≡ true
+  unfolding allowed
+  end-allowed m = refl
+
+  back-out-allowed : (m : Machine (ground-of lent n)) → allowed (ground-of lent n) (back-out u) m ≡ true
+  unfolding allowed
+  back-out-allowed m = refl
+
+  module _ (x : User) (idle : x .active ≡ false) (same : member-of x ≡ record { limit = member j u .limit; start = none }) where
+    -- ET
+    pub kept-ended : Kept capacity lent (with-state (with-user u x (removed (All u) n .state)) (removed (All u) n)) (journal.ended u j)
+    unfolding removed journal.ended
+    kept-ended = record {
+      sized = sized-left (n .store) (k .sized .made);
+      people = rw entries-left (people-ended (n .state .clock) (n .state .users) u least most x (k .people .user-count) idle (entries-of n) (k .people));
+      marks-sound = k .marks-sound;
+      data-sound = k .data-sound;
+      told = told-ended (n .state .clock) (n .state .users) u least most x (k .people .user-count) idle j (k .told) same;
+      invariant =
+          rw (act-end d (k .sized .shape) (updates d) lent capacity (n .store) (n .queue) (n .images) (n .state .count) (k .sized .made) u, log-end d lent u (j .changes)) at
+          (kept-act (ground-of lent n) (laws-of capacity lent n (k .sized)) (seen lent n) (logged (j .changes)) (k .invariant) (end u) (end-allowed (seen lent n)));
+    }
+
+    -- a back-out
+    pub kept-out : Kept capacity lent (with-state (with-user u x (removed (All u) (restored u n) .state)) (removed (All u) (restored u n))) (struck u j)
+    unfolding removed struck
+    kept-out = record {
+      sized = sized-left _ (made-restore d capacity (n .store) (n .queue) (n .images) (n .state .count) (k .sized .made) (k .sized .shape) u);
+      people = rw entries-left (people-ended (n .state .clock) (n .state .users) u least most x (k .people .user-count) idle (entries-of n) (k .people));
+      marks-sound = k .marks-sound;
+      data-sound = k .data-sound;
+      told = told-struck (n .state .clock) (n .state .users) u least most x (k .people .user-count) idle j (k .told) same;
+      invariant =
+          rw (act-back-out d (k .sized .shape) (updates d) lent capacity (n .store) (n .queue) (n .images) (n .state .count) (k .sized .made) u, log-back-out d lent u (j .changes)) at
+          (kept-act (ground-of lent n) (laws-of capacity lent n (k .sized)) (seen lent n) (logged (j .changes)) (k .invariant) (back-out u) (back-out-allowed (seen lent n)));
+    }
+
+  -- the journal has no start of him any more, and his limit still
+  pub idle-member : (x : User) → x .active ≡ false → x .session ≡ user-of n u .session → x .«time_limit» ≡ user-of n u .«time_limit»
+      → member-of x ≡ record { limit = member j u .limit; start = none }
+  idle-member x idle session limit = rw (member-is (n .state .users) u j (k .told .same-members), idle, session, limit)
+
+  -- BT, a forced back-out, and the clock's
+  pub kept-backed-out : Kept capacity lent (backed-out u n) (struck u j)
+  unfolding backed-out removed
+  kept-backed-out = kept-out (ended (user-of n u)) refl (idle-member (ended (user-of n u)) refl refl refl)

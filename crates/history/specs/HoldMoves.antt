@@ -1,0 +1,241 @@
+-- A hold in a nucleus as the abstract machine's: a new entry at the end of the queue, unless the caller has one.
+-- Assumes nothing.
+use Prim.Native.Nat.{ℕ, _+_, _<_}
+use native.Mathlib.Omega.{arith}
+use mathlib.Core.Path.{_≡_, refl, sym, ap, _∙_}
+use mathlib.Core.Bool.{Bool, true, false, not, cond}
+use mathlib.Core.List.{List, [], _∷_, _++_}
+use lib.Dec.{eqb}
+use lib.ListN.{length}
+use borrow.Author.Tests.{eqb-true, not-false}
+use Rattle.lists.specs.Tests.{Outcome, holds, fails, outcome, not-both, or-left, or-right, within-most, eqb-self}
+use Rattle.lists.specs.Folds.{any, all, distinct, all-append}
+use Rattle.definition.specs.Table.{file-at}
+use Rattle.definition.specs.Shape.{DefinitionShape, file-shape-at}
+use Rattle.definition.specs.declared.Definition.{Definition}
+use Rattle.layout.specs.Layout.{place}
+use Rattle.layout.specs.Laws.{place-found}
+use Rattle.layout.specs.declared.Found.{Found}
+use Rattle.layout.specs.declared.Found.the-variants as found-at
+use Rattle.entries.specs.Entries.{is-of}
+use Rattle.repeats.specs.Repeats.{alike, repeated}
+use Rattle.queue.specs.Queue.{seek, holder}
+use Rattle.lists.specs.Distinct.{distinct-last}
+use Rattle.entries.specs.Laws.{Shape, length-entries}
+use Rattle.queue.specs.Laws.{free-none, entries-append, length-append-entry}
+use Rattle.entries.specs.declared.Entry.{Entry}
+use Rattle.queue.specs.declared.Lookup.{Lookup}
+use Rattle.queue.specs.declared.Lookup.the-variants.{Held, Free}
+use Rattle.transactions.specs.Machine as machine
+use Rattle.ground.specs.Keys.{isn-bound, key, known, known-at, known-found, file-of-key, isn-of-key}
+use Rattle.ground.specs.Queue.{entry-known}
+use Rattle.ground.specs.Reading.{found-passes, other-holds}
+use Rattle.ground.specs.Entries.{queue-hold, queue-held}
+use Rattle.nucleus.specs.Users.{started}
+use Rattle.nucleus.specs.Nucleus.{Nucleus, Request, entries-of, change-user}
+use Rattle.nucleus.specs.WellMade.{within-file}
+use Rattle.nucleus.specs.Target.{held-by, held-by-other, holder-of}
+use Rattle.nucleus.specs.Effects.{entry-for, with-entry, held}
+use Rattle.history.specs.Kept.{definition-of, ground-of, seen}
+use Rattle.history.specs.QueueMoves.{queue-seen, MadeIn}
+
+-- ---- an ISN of its file, and its key
+module _ (d : Definition) (shape : DefinitionShape d) (file isn : ℕ) where
+  pub within-small : within-file d (place d file) isn ≡ true → isn < isn-bound
+  within-small h = go (place d file) refl h
+    where
+      go : (r : Found) → place d file ≡ r → within-file d r isn ≡ true → isn < isn-bound
+      go (found-at.At i) e t = omega (arith, within-most 1 (file-at d i .«max_isn») isn t, file-shape-at d shape i (omega (arith, place-found d shape file i e .0)) .small-max-isn)
+      go found-at.Nowhere e t = not-both false t refl
+
+  pub within-known : within-file d (place d file) isn ≡ true → known d (key file isn) ≡ true
+  unfolding known
+  within-known h = rw (file-of-key file isn (within-small h), isn-of-key file isn (within-small h)) (go (place d file) h)
+    where
+      go : (r : Found) → within-file d r isn ≡ true → known-at d r isn ≡ true
+      go (found-at.At i) t = t
+      go found-at.Nowhere t = t
+
+  pub known-file-small : isn < isn-bound → known d (key file isn) ≡ true → file < 256
+  known-file-small small inside =
+      let home = known-found d shape (key file isn) inside in
+      omega (arith, home .number, file-of-key file isn small, file-shape-at d shape (home .at) (omega (arith, home .in-use)) .small-number)
+
+-- ---- who holds
+-- an entry that a user holds
+pub record His (u : ℕ) (l : Lookup) : Type 0 where
+  pub at : ℕ
+  pub entry : Entry
+  pub found : l ≡ Held at entry
+  pub user : entry .user ≡ u
+
+pub his-entry : (u : ℕ) (l : Lookup) → held-by u l ≡ true → His u l
+his-entry u (Held i e) h = record { at = i; entry = e; found = refl; user = eqb-true (e .user) u h }
+his-entry u Free h = not-both false h refl
+
+-- neither his nor another's
+pub nobodys : (u : ℕ) (l : Lookup) → held-by u l ≡ false → held-by-other u l ≡ false → l ≡ Free
+nobodys u (Held i e) h o = not-both (eqb (e .user) u) (not-false (eqb (e .user) u) o) h
+nobodys u Free h o = refl
+
+passes-other : (u : ℕ) (l : Lookup) → found-passes (λ v. not (eqb v u)) l ≡ held-by-other u l
+passes-other u (Held i e) = refl
+passes-other u Free = refl
+
+-- a new entry is the one that is found
+module _ (file isn : ℕ) (e : Entry) (matches : is-of file isn e ≡ true) where
+  seek-last : (es : List Entry) (i : ℕ) → any (is-of file isn) es ≡ false → seek file isn (es ++ e ∷ []) i ≡ Held (i + length es) e
+  seek-last [] i h = let z : i + 0 ≡ i = omega arith in rw (matches, z)
+  seek-last (x ∷ es) i h =
+      let z : i + 1 + length es ≡ i + length (x ∷ es) = omega arith in
+      rw (or-left (is-of file isn x) (any (is-of file isn) es) h, ← z) (seek-last es (i + 1) (or-right (is-of file isn x) (any (is-of file isn) es) h))
+
+  pub holder-last : (es : List Entry) → holder es file isn ≡ Free → holder (es ++ e ∷ []) file isn ≡ Held (length es) e
+  unfolding holder
+  holder-last es free = seek-last es 0 (free-none file isn es free) ∙ ap (λ i. Held i e) (omega arith)
+
+-- ---- the two ways of a hold
+module _ (r : Request) (isn : ℕ) (n : Nucleus) where
+  abbrev user : ℕ
+  user = r .call .user
+
+  abbrev file : ℕ
+  file = r .call .file
+
+  -- with the new entry, his transaction begun
+  abbrev pub held-anew : Nucleus
+  held-anew = change-user user (started (n .state .clock)) (with-entry r isn n)
+
+  pub held-his : held-by user (holder-of r n isn) ≡ true → held r isn n ≡ n
+  unfolding held
+  held-his h = ap (λ b. cond b n held-anew) h
+
+  pub held-new : held-by user (holder-of r n isn) ≡ false → held r isn n ≡ held-anew
+  unfolding held
+  held-new h = ap (λ b. cond b n held-anew) h
+
+  -- what neither way changes: definition, clock, ET data, N1's marks, store, images
+  pub held-same : {A : Type 0} (part : Nucleus → A) → part held-anew ≡ part n → part (held r isn n) ≡ part n
+  unfolding held
+  held-same part same = go (held-by user (holder-of r n isn))
+    where
+      go : (b : Bool) → part (cond b n held-anew) ≡ part n
+      go true = refl
+      go false = same
+
+  pub held-definition : definition-of (held r isn n) ≡ definition-of n
+  held-definition = held-same definition-of refl
+
+  pub held-store : held r isn n .store ≡ n .store
+  held-store = held-same (λ m. m .store) refl
+
+  pub held-images : held r isn n .images ≡ n .images
+  held-images = held-same (λ m. m .images) refl
+
+  pub held-queue-length : length (held r isn n .queue) ≡ length (n .queue)
+  held-queue-length = held-same (λ m. length (m .queue)) (length-append-entry (n .queue) (n .state .count) (entry-for r isn n))
+
+-- ---- of a well made nucleus
+module _ (n : Nucleus) (capacity : ℕ) (made : MadeIn capacity n) where
+  -- the machine's `held-by-other` is the nucleus's
+  pub other-seen : (u file isn : ℕ) → isn < isn-bound → machine.held-by-other u (key file isn) (queue-seen n) ≡ held-by-other u (holder (entries-of n) file isn)
+  other-seen u file isn small =
+      other-holds (definition-of n) (n .queue) (n .images) (n .state .count) (made .single) file isn small u ∙ passes-other u (holder (entries-of n) file isn)
+
+  pub hold-allowed : (lent : List ℕ) (u file isn : ℕ) → isn < isn-bound → held-by-other u (holder (entries-of n) file isn) ≡ false
+      → machine.allowed (ground-of lent n) (machine.hold u (key file isn)) (seen lent n) ≡ true
+  unfolding machine.allowed
+  hold-allowed lent u file isn small mine = rw (other-seen u file isn small ∙ mine)
+
+  -- at an ISN of its file that nobody else holds, with room in the queue for a new entry
+  module _ (shape : DefinitionShape (definition-of n)) (r : Request) (isn : ℕ) (small : isn < isn-bound)
+      (inside : known (definition-of n) (key (r .call .file) isn) ≡ true) (small-user : r .call .user < 256)
+      (mine : held-by-other (r .call .user) (holder-of r n isn) ≡ false) (room : held-by (r .call .user) (holder-of r n isn) ≡ false → n .state .count < capacity) where
+    abbrev u : ℕ
+    u = r .call .user
+
+    abbrev k : ℕ
+    k = key (r .call .file) isn
+
+    abbrev new : Entry
+    new = entry-for r isn n
+
+    new-shape : Shape new
+    new-shape = record { user = small-user; file = known-file-small (definition-of n) shape (r .call .file) isn small inside; isn = small }
+
+    new-matches : is-of (r .call .file) isn new ≡ true
+    new-matches = rw (eqb-self (r .call .file)) (eqb-self isn)
+
+    -- where he has no entry yet
+    module _ (none : held-by u (holder-of r n isn) ≡ false) where
+      free : holder-of r n isn ≡ Free
+      free = nobodys u (holder-of r n isn) none mine
+
+      place-left : n .state .count < length (n .queue)
+      place-left = omega (arith, room none, made .queue-room)
+
+      entries-anew : entries-of (held-anew r isn n) ≡ entries-of n ++ new ∷ []
+      entries-anew = entries-append (n .queue) (n .state .count) new new-shape place-left
+
+      seen-anew : queue-seen (held-anew r isn n) ≡ machine.with-hold u k (queue-seen n)
+      seen-anew = queue-hold (definition-of n) (n .queue) (n .images) (n .state .count) new new-shape refl place-left free
+
+      single-anew : repeated (entries-of n ++ new ∷ []) ≡ false
+      unfolding repeated
+      single-anew =
+          rw (distinct-last alike (entries-of n) new, not-false (distinct alike (entries-of n)) (made .single), free-none (r .call .file) isn (entries-of n) free)
+
+      made-anew : MadeIn capacity (held-anew r isn n)
+      made-anew = record {
+        store-room = made .store-room;
+        queue-room = omega (arith, made .queue-room, length-append-entry (n .queue) (n .state .count) new);
+        image-room = made .image-room;
+        most = omega (arith, room none);
+        each-known = rw (entries-anew, all-append (entry-known (definition-of n)) (entries-of n) (new ∷ []), made .each-known, inside);
+        single = rw entries-anew single-anew;
+      }
+
+      -- the entry is the last one
+      pub found-anew : holder-of r (held r isn n) isn ≡ Held (n .state .count) new
+      found-anew =
+          let long : length (entries-of n) ≡ n .state .count = omega (arith, length-entries (n .queue) (n .state .count), place-left) in
+          rw (held-new r isn n none, entries-anew, holder-last (r .call .file) isn new new-matches (entries-of n) free, long)
+
+    pub seen-held : queue-seen (held r isn n) ≡ machine.with-hold u k (queue-seen n)
+    seen-held = go (outcome (held-by u (holder-of r n isn)))
+      where
+        go : Outcome (held-by u (holder-of r n isn)) → queue-seen (held r isn n) ≡ machine.with-hold u k (queue-seen n)
+        go (holds h) =
+            let e = his-entry u (holder-of r n isn) h in
+            rw (held-his r isn n h) (sym (queue-held (definition-of n) (n .queue) (n .images) (n .state .count) u (r .call .file) isn (e .at) (e .entry) small (e .found)))
+        go (fails h) = rw (held-new r isn n h) (seen-anew h)
+
+    pub made-held : MadeIn capacity (held r isn n)
+    made-held = go (outcome (held-by u (holder-of r n isn)))
+      where
+        go : Outcome (held-by u (holder-of r n isn)) → MadeIn capacity (held r isn n)
+        go (holds h) = rw (held-his r isn n h) made
+        go (fails h) = rw (held-new r isn n h) (made-anew h)
+
+    pub entries-held : entries-of (held r isn n) ≡ cond (held-by u (holder-of r n isn)) (entries-of n) (entries-of n ++ new ∷ [])
+    entries-held = go (outcome (held-by u (holder-of r n isn)))
+      where
+        go : Outcome (held-by u (holder-of r n isn)) → entries-of (held r isn n) ≡ cond (held-by u (holder-of r n isn)) (entries-of n) (entries-of n ++ new ∷ [])
+        go (holds h) = rw (held-his r isn n h, h)
+        go (fails h) = rw (held-new r isn n h, h) (entries-anew h)
+
+    -- a test that all entries pass, and his new one
+    pub all-held : (p : Entry → Bool) → all p (entries-of n) ≡ true → p new ≡ true → all p (entries-of (held r isn n)) ≡ true
+    all-held p h t = rw entries-held (go (held-by u (holder-of r n isn)))
+      where
+        go : (b : Bool) → all p (cond b (entries-of n) (entries-of n ++ new ∷ [])) ≡ true
+        go true = h
+        go false = rw (all-append p (entries-of n) (new ∷ []), h, t)
+
+    -- the entry that is found then is his
+    pub his-held : held-by u (holder-of r (held r isn n) isn) ≡ true
+    his-held = go (outcome (held-by u (holder-of r n isn)))
+      where
+        go : Outcome (held-by u (holder-of r n isn)) → held-by u (holder-of r (held r isn n) isn) ≡ true
+        go (holds h) = rw (held-his r isn n h) h
+        go (fails h) = rw (found-anew h) (eqb-self u)

@@ -1,0 +1,152 @@
+-- What is kept where a call holds an ISN: its user is in a transaction from then on, or was already.
+-- Assumes nothing.
+use Prim.Native.Nat.{ℕ, _-_, _≤_, _<_}
+use native.Mathlib.Omega.{arith}
+use mathlib.Core.Path.{_≡_, refl, sym, ap, _∙_}
+use mathlib.Core.Bool.{Bool, true, false}
+use mathlib.Core.List.{List, [], _∷_}
+use mathlib.Core.Option.{none, some}
+use lib.ListN.{length, set}
+use Rattle.lists.specs.Tests.{within, Outcome, holds, fails, outcome, within-inside, and-right}
+use Rattle.lists.specs.Folds.{all, all-at}
+use Rattle.definition.specs.declared.Definition.{Definition}
+use Rattle.queue.specs.Queue.{holder}
+use Rattle.entries.specs.Laws.{no-entry}
+use Rattle.queue.specs.Laws.{Found, held-found}
+use Rattle.entries.specs.declared.Entry.{Entry}
+use Rattle.queue.specs.declared.Lookup.{Lookup}
+use Rattle.transactions.specs.Machine.{hold, with-hold, act, log}
+use Rattle.transactions.specs.Theorems.{Invariant, kept-act}
+use Rattle.ground.specs.Keys.{isn-bound, key, known}
+use Rattle.nucleus.specs.Users.{started, with-transaction}
+use Rattle.nucleus.specs.Nucleus.{Nucleus, Request, max-users, user-of, entries-of}
+use Rattle.nucleus.specs.Target.{held-by, held-by-other, holder-of}
+use Rattle.nucleus.specs.Effects.{held, entry-for}
+use Rattle.nucleus.specs.declared.User.{User}
+use Rattle.history.specs.Journal.{Journal, member, with-member, start-at, begun}
+use Rattle.history.specs.Updates.{logged}
+use Rattle.history.specs.Kept.{Kept, People, definition-of, ground-of, seen, user-sound, is-active, entry-active, member-of, start-of, one-of-users}
+use Rattle.history.specs.People.{ActiveSound, active-sound, sound-active, active-own, member-is}
+use Rattle.history.specs.Keeping.{people-user, told-user, same-member}
+use Rattle.history.specs.Ends.{laws-of}
+use Rattle.history.specs.Passing.{user-known}
+use Rattle.history.specs.QueueMoves.{queue-seen, MadeIn}
+use Rattle.history.specs.HoldMoves.{His, his-entry, held-anew, held-his, held-new, made-held, seen-held, all-held, hold-allowed}
+
+-- a caller that may hold: in his session, not marked, not access-only
+pub record Serving (u : ℕ) (n : Nucleus) : Type 0 where
+  pub least : 1 ≤ u
+  pub most : u ≤ max-users
+  pub session : user-of n u .session ≡ true
+  pub unmarked : user-of n u .overdue ≡ false
+  pub changing : user-of n u .«access_only» ≡ false
+
+-- an ISN of its file that nobody else holds, and room for a new entry
+pub record Holdable (capacity : ℕ) (r : Request) (isn : ℕ) (n : Nucleus) : Type 0 where
+  pub small : isn < isn-bound
+  pub inside : known (definition-of n) (key (r .call .file) isn) ≡ true
+  pub mine : held-by-other (r .call .user) (holder-of r n isn) ≡ false
+  pub room : held-by (r .call .user) (holder-of r n isn) ≡ false → n .state .count < capacity
+
+module _ (capacity : ℕ) (lent : List ℕ) (n : Nucleus) (j : Journal) (k : Kept capacity lent n j) (r : Request) (isn : ℕ)
+    (s : Serving (r .call .user) n) (h : Holdable capacity r isn n) where
+  abbrev u : ℕ
+  u = r .call .user
+
+  abbrev clock : ℕ
+  clock = n .state .clock
+
+  abbrev us : List User
+  us = n .state .users
+
+  abbrev x : User
+  x = started clock (user-of n u)
+
+  -- ---- the caller, in a transaction
+  x-active : x .active ≡ true
+  x-active = go (outcome (user-of n u .active))
+    where
+      go : Outcome (user-of n u .active) → x .active ≡ true
+      go (holds a) = rw (a, a)
+      go (fails a) = rw a
+
+  x-sound : user-sound clock x ≡ true
+  x-sound = go (outcome (user-of n u .active))
+    where
+      go : Outcome (user-of n u .active) → user-sound clock x ≡ true
+      go (holds a) = rw a (user-known capacity lent n j k u)
+      go (fails a) = rw a (sound-active clock (with-transaction true clock (user-of n u)) (record { session = s .session; begun = omega arith; unmarked = s .unmarked; changing = s .changing }))
+
+  x-member : member-of x ≡ record { limit = member j u .limit; start = start-at (j .clock) (member j u .start) }
+  x-member = rw (member-is us u j (k .told .same-members), k .told .same-clock) (go (outcome (user-of n u .active)))
+    where
+      go : Outcome (user-of n u .active) → member-of x ≡ record { limit = member-of (user-of n u) .limit; start = start-at clock (start-of (user-of n u)) }
+      go (holds a) = rw (a, a)
+      go (fails a) = rw a
+
+  pub begun-is : begun u j ≡ with-member u (member-of x) j
+  unfolding begun
+  begun-is = ap (λ m. with-member u m j) (sym x-member)
+
+  -- whoever has an entry is in a transaction
+  has-entry : held-by u (holder-of r n isn) ≡ true → user-of n u .active ≡ true
+  has-entry his =
+      let e = his-entry u (holder-of r n isn) his in
+      let f = held-found (r .call .file) isn (entries-of n) (e .at) (e .entry) (e .found) in
+      let a : is-active us (e .entry .user) ≡ true = rw (f .stands) at (all-at (entry-active us) (entries-of n) no-entry (k .people .entries-active) (e .at) (f .inside)) in
+      and-right (within 1 max-users u) (user-of n u .active) (rw (e .user) at a)
+
+  begun-same : user-of n u .active ≡ true → begun u j ≡ j
+  begun-same a = begun-is ∙ same-member us u j (k .told .same-members) x (rw (a, a))
+
+  -- ---- a new entry
+  abbrev us′ : List User
+  us′ = set us (u - 1) x
+
+  small-user : u < 256
+  small-user = omega (arith, s .most)
+
+  old-people : People clock us′ (entries-of n)
+  old-people = people-user clock us u (s .least) (s .most) x (k .people .user-count) (λ a. x-active) (entries-of n) (k .people) x-sound
+
+  new-active : is-active us′ u ≡ true
+  new-active = active-own us (k .people .user-count) u (s .least) (s .most) x ∙ x-active
+
+  kept-hold : Invariant (ground-of lent n) (record { store = n .store; queue = with-hold u (key (r .call .file) isn) (queue-seen n) }) (logged (j .changes))
+  unfolding act log
+  kept-hold =
+      kept-act (ground-of lent n) (laws-of capacity lent n (k .sized)) (seen lent n) (logged (j .changes)) (k .invariant) (hold u (key (r .call .file) isn))
+      (hold-allowed n capacity (k .sized .made) lent u (r .call .file) isn (h .small) (h .mine))
+
+  module _ (none-his : held-by u (holder-of r n isn) ≡ false) where
+    anew : Kept capacity lent (held-anew r isn n) (with-member u (member-of x) j)
+    anew = record {
+      sized = record {
+        shape = k .sized .shape;
+        valid = k .sized .valid;
+        capacity-sound = k .sized .capacity-sound;
+        made = rw (held-new r isn n none-his) at (made-held n capacity (k .sized .made) (k .sized .shape) r isn (h .small) (h .inside) small-user (h .mine) (h .room));
+      };
+      people = record {
+        user-count = old-people .user-count;
+        users-sound = old-people .users-sound;
+        entries-active =
+            rw (held-new r isn n none-his) at
+            (all-held n capacity (k .sized .made) (k .sized .shape) r isn (h .small) (h .inside) small-user (h .mine) (h .room) (entry-active us′) (old-people .entries-active) new-active);
+      };
+      marks-sound = k .marks-sound;
+      data-sound = k .data-sound;
+      told = told-user clock us u (s .least) (s .most) x (k .people .user-count) (λ a. x-active) j (k .told);
+      invariant =
+          let seen-new : queue-seen (held-anew r isn n) ≡ with-hold u (key (r .call .file) isn) (queue-seen n) =
+          rw (held-new r isn n none-his) at (seen-held n capacity (k .sized .made) (k .sized .shape) r isn (h .small) (h .inside) small-user (h .mine) (h .room))
+          in
+          rw seen-new kept-hold;
+    }
+
+  pub kept-held : Kept capacity lent (held r isn n) (begun u j)
+  kept-held = go (outcome (held-by u (holder-of r n isn)))
+    where
+      go : Outcome (held-by u (holder-of r n isn)) → Kept capacity lent (held r isn n) (begun u j)
+      go (holds his) = rw (held-his r isn n his, begun-same (has-entry his)) k
+      go (fails new) = rw (held-new r isn n new, begun-is) (anew new)

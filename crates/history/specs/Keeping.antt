@@ -1,0 +1,127 @@
+-- What is kept where a call changes a user, ET data, N1's mark or the clock, and neither store, queue nor images.
+-- Assumes nothing.
+use Prim.Native.Nat.{ℕ, zero, suc, _-_, _≤_, _<_, max}
+use native.Mathlib.Omega.{arith}
+use mathlib.Core.Path.{_≡_, refl, sym, ap, _∙_}
+use mathlib.Core.Bool.{Bool, true, false, not, _||_}
+use mathlib.Core.List.{List, [], _∷_, map}
+use lib.Dec.{leb, ltb}
+use lib.ListN.{length, getD, set, length-set}
+use lib.Seq.{set-getD, getD-take}
+use borrow.Author.Tests.{le-leb}
+use Rattle.lists.specs.Tests.{Outcome, holds, fails, outcome, and-left, and-right}
+use Rattle.lists.specs.Folds.{all}
+use Rattle.definition.specs.Table.{beyond, file-at, file-count, files-of}
+use Rattle.ground.specs.Keys.{isn-bound}
+use Rattle.definition.specs.declared.File.{File}
+use Rattle.entries.specs.declared.Entry.{Entry}
+use Rattle.nucleus.specs.Nucleus.{Nucleus, max-users, user-of, with-user, with-data, with-mark, with-clock, with-state, entries-of}
+use Rattle.nucleus.specs.WellMade.{marks-made, data-made}
+use Rattle.nucleus.specs.declared.User.{User}
+use Rattle.nucleus.specs.declared.EtData.{EtData}
+use Rattle.history.specs.Journal.{Journal, Member, Change, new-member, member, with-member}
+use Rattle.history.specs.Kept.{Kept, People, Told, definition-of, user-sound, is-active, entry-active, change-sound, member-of, one-of-users}
+use Rattle.history.specs.People.{all-implies, all-set, sound-later, active-kept, members-set, member-is}
+
+-- ---- the users, where one of them becomes another value
+module _ (clock : ℕ) (us : List User) (u : ℕ) (least : 1 ≤ u) (most : u ≤ max-users) (x : User) (full : length us ≡ max-users) where
+  abbrev us′ : List User
+  us′ = set us (u - 1) x
+
+  -- he stays in a transaction, where he is in one
+  module _ (stays : one-of-users us u .active ≡ true → x .active ≡ true) where
+    still : (v : ℕ) → is-active us v ≡ true → is-active us′ v ≡ true
+    still = active-kept us full u least most x stays
+
+    pub people-user : (es : List Entry) → People clock us es → user-sound clock x ≡ true → People clock us′ es
+    people-user es p sound = record {
+      user-count = length-set us (u - 1) x ∙ full;
+      users-sound = all-set (user-sound clock) us (u - 1) x (p .users-sound) sound;
+      entries-active = all-implies (entry-active us) (entry-active us′) (λ e. still (e .user)) es (p .entries-active);
+    }
+
+    change-active : (c : Change) → change-sound us c ≡ true → change-sound us′ c ≡ true
+    change-active c h = go (outcome (c .uncommitted))
+      where
+        small : ltb (c .isn) isn-bound ≡ true
+        small = and-left (ltb (c .isn) isn-bound) (not (c .uncommitted) || is-active us (c .user)) h
+
+        go : Outcome (c .uncommitted) → change-sound us′ c ≡ true
+        go (holds t) = rw (small, t) (still (c .user) (rw (small, t) at h))
+        go (fails t) = rw (small, t)
+
+    pub told-user : (j : Journal) → Told clock us j → Told clock us′ (with-member u (member-of x) j)
+    told-user j t = record {
+      same-clock = t .same-clock;
+      same-members = ap (λ ms. set ms (u - 1) (member-of x)) (t .same-members) ∙ sym (members-set us full u least most x);
+      changes-sound = all-implies (change-sound us) (change-sound us′) change-active (j .changes) (t .changes-sound);
+    }
+
+-- a member that is set to what it is
+pub same-member : (us : List User) (u : ℕ) (j : Journal) → j .members ≡ map member-of us → (x : User) → member-of x ≡ member-of (one-of-users us u) → with-member u (member-of x) j ≡ j
+same-member us u j h x like =
+    ap (λ ms. record { clock = j .clock; members = ms; changes = j .changes })
+    (ap (set (j .members) (u - 1)) (like ∙ sym (member-is us u j h)) ∙ set-getD (j .members) (u - 1) new-member)
+
+marks-set : (marks : List ℕ) (fs : List File) (i isn : ℕ) → marks-made marks fs ≡ true → isn ≤ getD fs i beyond .«max_isn» → marks-made (set marks i isn) fs ≡ true
+marks-set marks [] i isn h m = refl
+marks-set [] (f ∷ fs) i isn h m = refl
+marks-set (a ∷ marks) (f ∷ fs) zero isn h m = rw (le-leb isn (f .«max_isn») m) (and-right (leb a (f .«max_isn»)) (marks-made marks fs) h)
+marks-set (a ∷ marks) (f ∷ fs) (suc i) isn h m =
+    rw (and-left (leb a (f .«max_isn»)) (marks-made marks fs) h) (marks-set marks fs i isn (and-right (leb a (f .«max_isn»)) (marks-made marks fs) h) m)
+
+module _ (capacity : ℕ) (lent : List ℕ) (n : Nucleus) (j : Journal) (k : Kept capacity lent n j) where
+  module _ (u : ℕ) (least : 1 ≤ u) (most : u ≤ max-users) (x : User) (sound : user-sound (n .state .clock) x ≡ true) (same : x .active ≡ user-of n u .active) where
+    -- a user becomes another value; he stays in his transaction, or out of one
+    pub kept-user : Kept capacity lent (with-state (with-user u x (n .state)) n) (with-member u (member-of x) j)
+    kept-user = record {
+      sized = k .sized;
+      people = people-user (n .state .clock) (n .state .users) u least most x (k .people .user-count) (λ a. same ∙ a) (entries-of n) (k .people) sound;
+      marks-sound = k .marks-sound;
+      data-sound = k .data-sound;
+      told = told-user (n .state .clock) (n .state .users) u least most x (k .people .user-count) (λ a. same ∙ a) j (k .told);
+      invariant = k .invariant;
+    }
+
+    -- the journal has the same member
+    pub kept-like : member-of x ≡ member-of (user-of n u) → Kept capacity lent (with-state (with-user u x (n .state)) n) j
+    kept-like like = rw (same-member (n .state .users) u j (k .told .same-members) x like) at kept-user
+
+  pub kept-data : (u : ℕ) (x : EtData) → data-made x ≡ true → Kept capacity lent (with-state (with-data u x (n .state)) n) j
+  kept-data u x h = record {
+    sized = k .sized;
+    people = k .people;
+    marks-sound = k .marks-sound;
+    data-sound = all-set data-made (n .state .«et_data») (u - 1) x (k .data-sound) h;
+    told = k .told;
+    invariant = k .invariant;
+  }
+
+  -- N1's mark, of the file at a place in use
+  pub kept-mark : (i isn : ℕ) → i < file-count (definition-of n) → isn ≤ file-at (definition-of n) i .«max_isn»
+      → Kept capacity lent (with-state (with-mark i isn (n .state)) n) j
+  kept-mark i isn used h = record {
+    sized = k .sized;
+    people = k .people;
+    marks-sound = marks-set (n .state .«last_assigned») (files-of (definition-of n)) i isn (k .marks-sound)
+        (rw (getD-take (file-count (definition-of n)) (definition-of n .files) i beyond used) h);
+    data-sound = k .data-sound;
+    told = k .told;
+    invariant = k .invariant;
+  }
+
+  -- a clock that is not earlier
+  pub kept-clock : (clock : ℕ) → n .state .clock ≤ clock
+      → Kept capacity lent (with-state (with-clock clock (n .state)) n) (record { clock = clock; members = j .members; changes = j .changes })
+  kept-clock clock later = record {
+    sized = k .sized;
+    people = record {
+      user-count = k .people .user-count;
+      users-sound = all-implies (user-sound (n .state .clock)) (user-sound clock) (sound-later (n .state .clock) clock later) (n .state .users) (k .people .users-sound);
+      entries-active = k .people .entries-active;
+    };
+    marks-sound = k .marks-sound;
+    data-sound = k .data-sound;
+    told = record { same-clock = refl; same-members = k .told .same-members; changes-sound = k .told .changes-sound };
+    invariant = k .invariant;
+  }

@@ -1,0 +1,177 @@
+-- Set-up: what it leaves has all that is kept from call to call (`Kept`), nobody overdue; and what it leaves untouched of what was lent.
+-- Assumes nothing.
+use Prim.Native.Nat.{ℕ, zero, suc, _*_, _≤_}
+use native.Mathlib.Omega.{arith}
+use mathlib.Core.Path.{_≡_, refl, sym, _∙_}
+use mathlib.Core.Bool.{true, false}
+use mathlib.Core.List.{List, [], _∷_}
+use lib.Dec.{eqb}
+use lib.ListN.{length, drop, replicate}
+use borrow.Author.Tests.{le-leb, ltb-false, not-false}
+use Rattle.lists.specs.Tests.{within, or-left, or-right, Outcome, holds, fails, outcome}
+use Rattle.definition.specs.Table.{max-files, file-count, files-of}
+use Rattle.definition.specs.Shape.{DefinitionShape}
+use Rattle.definition.specs.declared.File.{File}
+use Rattle.definition.specs.declared.Definition.{Definition}
+use Rattle.layout.specs.Layout.{store-size, image-length}
+use Rattle.validity.specs.Validity.{valid}
+use Rattle.reading.specs.Grammar.{read-table}
+use Rattle.reading.specs.Laws.{read-valid}
+use Rattle.reading.specs.declared.End.{End}
+use Rattle.reading.specs.declared.End.the-variants.{At, Broken}
+use Rattle.store.specs.Lists.{numbers}
+use Rattle.entries.specs.Entries.{entries}
+use Rattle.repeats.specs.Repeats.{repeated}
+use Rattle.transactions.specs.Machine.{begin}
+use Rattle.transactions.specs.Theorems.{Invariant, kept-begin}
+use Rattle.ground.specs.Store.{fresh-from, fresh-store}
+use Rattle.ground.specs.Fresh.{fresh-room, fresh-store-is, fresh-store-length, fresh-store-past}
+use Rattle.ground.specs.Ground.{ground, laws}
+use Rattle.ground.specs.Queue.{queue-of}
+use Rattle.nucleus.specs.Nucleus.{Nucleus, max-capacity, fresh-state}
+use Rattle.nucleus.specs.WellMade.{too-short, marks-made}
+use Rattle.nucleus.specs.Step.{SetUp, freshened, not-set-up, set-up-as, set-up-at, set-up}
+use Rattle.nucleus.specs.declared.Response.{Response}
+use Rattle.nucleus.specs.declared.Response.the-variants.{Good, DefinitionInvalid, BufferTooShort}
+use Rattle.history.specs.Journal.{new-journal}
+use Rattle.history.specs.Updates.{updates, logged}
+use Rattle.history.specs.UpdateLaws.{update-laws}
+use Rattle.history.specs.ReadShape.{read-shape}
+use Rattle.history.specs.Kept.{seen, ground-of, Kept, Rested}
+
+-- ---- no buffer too short
+record Long (d : Definition) (capacity : ℕ) (store queue images : List ℕ) : Type 0 where
+  capacity-sound : within 1 max-capacity capacity ≡ true
+  queue-room : capacity ≤ length queue
+  store-room : store-size d ≤ length store
+  image-room : capacity * image-length d ≤ length images
+
+long-enough : (d : Definition) (capacity : ℕ) (store queue images : List ℕ) → too-short d capacity store queue images ≡ false → Long d capacity store queue images
+unfolding too-short
+long-enough d capacity store queue images h = record {
+  capacity-sound = not-false (within 1 max-capacity capacity) (search (or-left, or-right));
+  queue-room = ltb-false (length queue) capacity (search (or-left, or-right));
+  store-room = ltb-false (length store) (store-size d) (search (or-left, or-right));
+  image-room = ltb-false (length images) (capacity * image-length d) (search (or-left, or-right));
+}
+
+-- ---- the store that it leaves: `ground`'s
+freshened-from : (d : Definition) (is store : List ℕ) → freshened d is store ≡ fresh-from d is store
+freshened-from d [] store = refl
+freshened-from d (i ∷ is) store = freshened-from d is _
+
+-- ---- marks of 0
+no-marks : (n : ℕ) (fs : List File) → marks-made (replicate n 0) fs ≡ true
+no-marks n [] = refl
+no-marks zero (f ∷ fs) = refl
+no-marks (suc n) (f ∷ fs) = rw (le-leb 0 (f .«max_isn») (omega arith)) (no-marks n fs)
+
+module _ (capacity : ℕ) (store queue images : List ℕ) where
+  -- the nucleus that a set-up leaves
+  abbrev started : Definition → Nucleus
+  started d = record { state = fresh-state d; store = fresh-store d store; queue = queue; images = images }
+
+  -- ---- a fresh nucleus has what is kept
+  module _ (d : Definition) (s : DefinitionShape d) (v : valid d ≡ true) (long : Long d capacity store queue images) where
+    none-seen : Invariant (ground-of store (started d)) (seen store (started d)) (logged (new-journal .changes))
+    unfolding begin queue-of entries
+    none-seen = kept-begin (ground d (updates d) store) (laws d s v (updates d) (update-laws d s v) store)
+
+    kept-started : Kept capacity store (started d) new-journal
+    unfolding entries repeated
+    kept-started = record {
+      sized = record {
+        shape = s;
+        valid = v;
+        capacity-sound = long .capacity-sound;
+        made = record {
+          store-room = fresh-room d s store;
+          queue-room = long .queue-room;
+          image-room = long .image-room;
+          most = omega arith;
+          each-known = refl;
+          single = refl;
+        };
+      };
+      people = record { user-count = refl; users-sound = refl; entries-active = refl };
+      marks-sound = no-marks max-files (files-of d);
+      data-sound = refl;
+      told = record { same-clock = refl; same-members = refl; changes-sound = refl };
+      invariant = none-seen;
+    }
+
+  -- lent and left: queue and images, the store's length, and its bytes past the table's size
+  pub record Untouched (n : Nucleus) : Type 0 where
+    pub queue-kept : n .queue ≡ queue
+    pub images-kept : n .images ≡ images
+    pub store-length : length (n .store) ≡ length store
+    pub store-past : drop (store-size (n .state .definition)) (n .store) ≡ drop (store-size (n .state .definition)) store
+
+  -- how a set-up ends: with the table, or with nothing set up
+  data Ended (d : Definition) : SetUp → Type 0 where
+    done : valid d ≡ true → Long d capacity store queue images → Ended d (record { response = Good; nucleus = started d })
+    undone : (cause : Response) → (cause ≡ Good → ⊥) → Ended d (not-set-up capacity store queue images cause)
+
+  no-table : DefinitionInvalid ≡ Good → ⊥
+  no-table e = let z : _≡_ {A = ℕ} 0 1 = cc in omega arith
+
+  no-room : BufferTooShort ≡ Good → ⊥
+  no-room e = let z : _≡_ {A = ℕ} 0 1 = cc in omega arith
+
+  ended-as : (d : Definition) → DefinitionShape d → valid d ≡ true → Ended d (set-up-as capacity store queue images d)
+  ended-as d s v = go (outcome (too-short d capacity store queue images))
+    where
+      go : Outcome (too-short d capacity store queue images) → Ended d (set-up-as capacity store queue images d)
+      go (holds h) = rw h (undone BufferTooShort no-room)
+      go (fails h) =
+          let long = long-enough d capacity store queue images h in
+          let fresh : freshened d (numbers (file-count d) 0) store ≡ fresh-store d store = freshened-from d (numbers (file-count d) 0) store ∙ sym (fresh-store-is d s store (long .store-room)) in
+          rw (h, fresh) (done v long)
+
+  module _ (table : List ℕ) where
+    abbrev d : Definition
+    d = read-table table .definition
+
+    set-up-ended : Ended d (set-up capacity store queue images table)
+    unfolding set-up
+    set-up-ended = go (read-table table .end) refl
+      where
+        go : (e : End) → read-table table .end ≡ e → Ended d (set-up-at capacity store queue images e (length table) d)
+        go Broken q = undone DefinitionInvalid no-table
+        go (At end) q = whole (outcome (eqb end (length table)))
+          where
+            whole : Outcome (eqb end (length table)) → Ended d (set-up-at capacity store queue images (At end) (length table) d)
+            whole (holds h) = rw h (ended-as d (read-shape table) (read-valid table end q))
+            whole (fails h) = rw h (undone DefinitionInvalid no-table)
+
+    -- ---- "Bytes and entries past these sizes are never touched", whatever it answers
+    pub set-up-touches : Untouched (set-up capacity store queue images table .nucleus)
+    set-up-touches = go set-up-ended
+      where
+        go : {r : SetUp} → Ended d r → Untouched (r .nucleus)
+        go (done v long) = record {
+          queue-kept = refl;
+          images-kept = refl;
+          store-length = fresh-store-length d (read-shape table) store (long .store-room);
+          store-past = fresh-store-past d (read-shape table) store (long .store-room);
+        }
+        go (undone cause other) = record { queue-kept = refl; images-kept = refl; store-length = refl; store-past = refl }
+
+    -- ---- after a set-up that answered 0
+    module _ (good : set-up capacity store queue images table .response ≡ Good) where
+      abbrev n : Nucleus
+      n = set-up capacity store queue images table .nucleus
+
+      -- it is the fresh nucleus of the table, which is valid
+      by-started : (P : Nucleus → Type 0) → (valid d ≡ true → Long d capacity store queue images → P (started d)) → P n
+      by-started P h = go set-up-ended good
+        where
+          go : {r : SetUp} → Ended d r → r .response ≡ Good → P (r .nucleus)
+          go (done v long) e = h v long
+          go (undone cause other) e = absurd (other e)
+
+      pub kept-set-up : Kept capacity store n new-journal
+      kept-set-up = by-started (λ m. Kept capacity store m new-journal) (kept-started d (read-shape table))
+
+      pub rested-set-up : Rested n
+      rested-set-up = by-started Rested (λ v long. refl)

@@ -1,0 +1,46 @@
+-- Back-out of a user, and the clock that backs out who is overdue (document 01, 'One call': "the nucleus keeps the greatest it was given and uses
+-- that. Then each user, rising, whose transaction began more than his time limit ago is backed out and marked overdue").
+use Prim.Native.Nat.{ℕ, zero, suc, _+_, _-_, max}
+use mathlib.Core.Bool.{Bool, true}
+use mathlib.Core.List.{List, [], _∷_}
+use Rattle.lists.specs.Tests.{cond}
+use Rattle.layout.specs.Layout.{image-length}
+use Rattle.images.specs.Images.{remove-queue, remove-images, remove-count}
+use Rattle.hold.specs.Hold.{restore}
+use Rattle.images.specs.declared.Removal.{Removal}
+use Rattle.images.specs.declared.Removal.the-variants.{All}
+use Rattle.nucleus.specs.Users.{is-due, ended, marked}
+use Rattle.nucleus.specs.Nucleus.{Nucleus, max-users, with-clock, with-count, with-state, with-store, user-of, change-user}
+
+-- the bytes of an image
+abbrev pub width-of : Nucleus → ℕ
+width-of n = image-length (n .state .definition)
+
+-- entries go, with their images
+unfoldable pub removed : Removal → Nucleus → Nucleus
+removed which n = record {
+  state = with-count (remove-count (n .queue) (n .images) (n .state .count) (width-of n) which) (n .state);
+  store = n .store;
+  queue = remove-queue (n .queue) (n .images) (n .state .count) (width-of n) which;
+  images = remove-images (n .queue) (n .images) (n .state .count) (width-of n) which;
+}
+
+-- "A back-out puts every changed entry's image back, or makes its ISN empty where no record was, and removes all the user's entries"
+abbrev pub restored : ℕ → Nucleus → Nucleus
+restored u n = with-store (restore (n .state .definition) (width-of n) u (n .queue) (n .images) (n .state .count) (n .store)) n
+
+unfoldable pub backed-out : ℕ → Nucleus → Nucleus
+backed-out u n = change-user u ended (removed (All u) (restored u n))
+
+-- one user, where he is due
+abbrev pub timed-out : ℕ → Nucleus → Nucleus
+timed-out u n = cond (is-due (n .state .clock) (user-of n u)) (change-user u (marked true) (backed-out u n)) n
+
+-- the users from one on
+abbrev pub timed-out-from : ℕ → ℕ → Nucleus → Nucleus
+timed-out-from zero u n = n
+timed-out-from (suc more) u n = timed-out-from more (u + 1) (timed-out u n)
+
+-- the clock of a call, and all that it does
+unfoldable pub clocked : ℕ → Nucleus → Nucleus
+clocked clock n = timed-out-from max-users 1 (with-state (with-clock (max (n .state .clock) clock) (n .state)) n)

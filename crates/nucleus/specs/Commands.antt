@@ -1,0 +1,79 @@
+-- The table of commands and the options named for each (document 01, 'One call').
+use Prim.Native.Nat.{ℕ}
+use mathlib.Core.Bool.{Bool, _&&_, _||_}
+use mathlib.Core.List.{List, [], _∷_}
+use mathlib.Core.Option.{Option, none, some}
+use lib.Dec.{eqb}
+use Rattle.lists.specs.Tests.{cond, eqbs}
+use Rattle.lists.specs.Folds.{any}
+use Rattle.nucleus.specs.declared.Command.{Command}
+use Rattle.nucleus.specs.declared.Command.the-variants.{Hi, Ri, L1, L4, A1, E1, N1, N2, Et, Bt, Re, Op, Cl}
+
+-- "the table of commands HI RI L1 L4 A1 E1 N1 N2 ET BT RE OP CL"
+abbrev pub commands : List Command
+commands = Hi ∷ Ri ∷ L1 ∷ L4 ∷ A1 ∷ E1 ∷ N1 ∷ N2 ∷ Et ∷ Bt ∷ Re ∷ Op ∷ Cl ∷ []
+
+-- its place there, from 1
+abbrev pub place-of : Command → ℕ
+place-of Hi = 1
+place-of Ri = 2
+place-of L1 = 3
+place-of L4 = 4
+place-of A1 = 5
+place-of E1 = 6
+place-of N1 = 7
+place-of N2 = 8
+place-of Et = 9
+place-of Bt = 10
+place-of Re = 11
+place-of Op = 12
+place-of Cl = 13
+
+-- its two letters, in ASCII
+abbrev pub code : Command → List ℕ
+code Hi = 72 ∷ 73 ∷ []
+code Ri = 82 ∷ 73 ∷ []
+code L1 = 76 ∷ 49 ∷ []
+code L4 = 76 ∷ 52 ∷ []
+code A1 = 65 ∷ 49 ∷ []
+code E1 = 69 ∷ 49 ∷ []
+code N1 = 78 ∷ 49 ∷ []
+code N2 = 78 ∷ 50 ∷ []
+code Et = 69 ∷ 84 ∷ []
+code Bt = 66 ∷ 84 ∷ []
+code Re = 82 ∷ 69 ∷ []
+code Op = 79 ∷ 80 ∷ []
+code Cl = 67 ∷ 76 ∷ []
+
+-- the first of some commands that has the letters
+abbrev pub seek : List ℕ → List Command → Option Command
+seek letters [] = none
+seek letters (c ∷ cs) = cond (eqbs (code c) letters) (some c) (seek letters cs)
+
+unfoldable pub command-of : List ℕ → Option Command
+command-of letters = seek letters commands
+
+-- whether the command is one of those
+abbrev pub one-of : List Command → Command → Bool
+one-of cs c = any (λ d. eqb (place-of d) (place-of c)) cs
+
+-- ---- options
+abbrev pub blank : ℕ
+blank = 32
+
+abbrev pub option-I : ℕ
+option-I = 73
+
+abbrev pub option-H : ℕ
+option-H = 72
+
+abbrev pub option-A : ℕ
+option-A = 65
+
+-- "blank X'20' for none"; `I` is named for L1 and L4, `H` for A1 and E1, `A` for OP
+unfoldable pub has-option : Command → ℕ → Bool
+has-option c o =
+    eqb o blank
+    || (eqb o option-I && one-of (L1 ∷ L4 ∷ []) c)
+    || (eqb o option-H && one-of (A1 ∷ E1 ∷ []) c)
+    || (eqb o option-A && one-of (Op ∷ []) c)

@@ -1,0 +1,13 @@
+pub mod Commands
+pub mod Users
+pub mod Responses
+pub mod Nucleus
+pub mod WellMade
+pub mod Clock
+pub mod Target
+pub mod Rows
+pub mod Effects
+pub mod Step
+pub mod Text
+pub mod Line
+mod Examples

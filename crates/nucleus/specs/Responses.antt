@@ -1,0 +1,38 @@
+-- Document 01's number for each cause, in the order of its table.
+use Prim.Native.Nat.{ℕ}
+use Rattle.nucleus.specs.declared.Response.{Response}
+use Rattle.nucleus.specs.declared.Response.the-variants.{Good, DefinitionInvalid, BufferTooShort, StateInvalid, CommandUnknown, UserUnknown, BackedOut, AccessOnly, FileUnknown, IsnInvalid, FormatInvalid, FieldTwice, RecordLength, ValueInvalid, NotFound, HeldByAnother, Presence, NotHeld, AlreadyChanged, FileFull, HoldLimit, QueueFull, ValueTaken}
+use Rattle.nucleus.specs.declared.Answer.{Answer}
+
+abbrev pub number : Response → ℕ
+number Good = 0
+number DefinitionInvalid = 10
+number BufferTooShort = 11
+number StateInvalid = 12
+number CommandUnknown = 22
+number UserUnknown = 72
+number BackedOut = 9
+number AccessOnly = 29
+number FileUnknown = 17
+number IsnInvalid = 113
+number FormatInvalid = 41
+number FieldTwice = 44
+number RecordLength = 53
+number ValueInvalid = 55
+number NotFound = 3
+number HeldByAnother = 145
+number Presence = 113
+number NotHeld = 144
+number AlreadyChanged = 146
+number FileFull = 75
+number HoldLimit = 47
+number QueueFull = 70
+number ValueTaken = 198
+
+-- every row of the table returns 0, 0, 0
+abbrev pub refused : Response → Answer
+refused r = record { response = r; isn = 0; quantity = 0; sequence = 0 }
+
+-- "Fields not named here are 0"
+abbrev pub good : ℕ → ℕ → ℕ → Answer
+good isn quantity sequence = record { response = Good; isn = isn; quantity = quantity; sequence = sequence }

@@ -1,0 +1,129 @@
+-- A user (document 01: "A user with no session gets one: hold limit 64, time limit 900, sequence 0"), and what becomes of his session and
+-- transaction.
+use Prim.Native.Nat.{ℕ, _-_}
+use mathlib.Core.Bool.{Bool, true, false, _&&_}
+use lib.Dec.{eqb, ltb}
+use Rattle.lists.specs.Tests.{cond}
+use Rattle.nucleus.specs.declared.User.{User}
+
+abbrev pub default-hold-limit : ℕ
+default-hold-limit = 64
+
+abbrev pub default-time-limit : ℕ
+default-time-limit = 900
+
+-- "it stops at 4294967295"
+abbrev pub max-sequence : ℕ
+max-sequence = 4294967295
+
+-- ---- sessions
+abbrev pub opening : User
+opening = record {
+  session = true;
+  «hold_limit» = default-hold-limit;
+  «time_limit» = default-time-limit;
+  sequence = 0;
+  «access_only» = false;
+  active = false;
+  begun = 0;
+  overdue = false;
+}
+
+-- "no user is open"
+abbrev pub fresh-user : User
+fresh-user = record {
+  session = false;
+  «hold_limit» = opening .«hold_limit»;
+  «time_limit» = opening .«time_limit»;
+  sequence = opening .sequence;
+  «access_only» = opening .«access_only»;
+  active = opening .active;
+  begun = opening .begun;
+  overdue = opening .overdue;
+}
+
+-- "A user with no session gets one"
+abbrev pub opened : User → User
+opened u = cond (u .session) u opening
+
+-- "0 for the default"
+abbrev pub or-default : ℕ → ℕ → ℕ
+or-default default n = cond (eqb n 0) default n
+
+-- OP: the two limits given, and whether access-only
+abbrev pub set-session : ℕ → ℕ → Bool → User → User
+set-session holds time access u = record {
+  session = u .session;
+  «hold_limit» = or-default default-hold-limit holds;
+  «time_limit» = or-default default-time-limit time;
+  sequence = 0;
+  «access_only» = access;
+  active = u .active;
+  begun = u .begun;
+  overdue = u .overdue;
+}
+
+-- CL
+abbrev pub closed : User → User
+closed u = record {
+  session = false;
+  «hold_limit» = u .«hold_limit»;
+  «time_limit» = u .«time_limit»;
+  sequence = u .sequence;
+  «access_only» = u .«access_only»;
+  active = u .active;
+  begun = u .begun;
+  overdue = u .overdue;
+}
+
+-- ET: the sequence answered
+abbrev pub counted : ℕ → User → User
+counted next u = record {
+  session = u .session;
+  «hold_limit» = u .«hold_limit»;
+  «time_limit» = u .«time_limit»;
+  sequence = next;
+  «access_only» = u .«access_only»;
+  active = u .active;
+  begun = u .begun;
+  overdue = u .overdue;
+}
+
+-- ---- transactions and the clock
+-- a transaction that began more than the limit ago
+abbrev pub late : ℕ → ℕ → ℕ → Bool
+late clock begun limit = ltb limit (clock - begun)
+
+abbrev pub is-due : ℕ → User → Bool
+is-due clock u = u .active && late clock (u .begun) (u .«time_limit»)
+
+abbrev pub with-transaction : Bool → ℕ → User → User
+with-transaction active begun u = record {
+  session = u .session;
+  «hold_limit» = u .«hold_limit»;
+  «time_limit» = u .«time_limit»;
+  sequence = u .sequence;
+  «access_only» = u .«access_only»;
+  active = active;
+  begun = begun;
+  overdue = u .overdue;
+}
+
+-- "A transaction opens at the user's first new hold"
+abbrev pub started : ℕ → User → User
+started clock u = cond (u .active) u (with-transaction true clock u)
+
+abbrev pub ended : User → User
+ended u = with-transaction false (u .begun) u
+
+abbrev pub marked : Bool → User → User
+marked overdue u = record {
+  session = u .session;
+  «hold_limit» = u .«hold_limit»;
+  «time_limit» = u .«time_limit»;
+  sequence = u .sequence;
+  «access_only» = u .«access_only»;
+  active = u .active;
+  begun = u .begun;
+  overdue = overdue;
+}

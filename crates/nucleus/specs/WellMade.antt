@@ -1,0 +1,64 @@
+-- Sizes, and when a state is well made (document 01, below the table of responses).
+use Prim.Native.Nat.{ℕ, _*_}
+use mathlib.Core.Bool.{Bool, true, false, not, _&&_, _||_}
+use mathlib.Core.List.{List, [], _∷_}
+use lib.Dec.{leb, ltb}
+use lib.ListN.{length, getD}
+use Rattle.lists.specs.Tests.{within}
+use Rattle.lists.specs.Folds.{all}
+use Rattle.definition.specs.Table.{file-at, file-count, files-of}
+use Rattle.layout.specs.Layout.{store-size, image-length, place}
+use Rattle.validity.specs.Validity.{valid}
+use Rattle.repeats.specs.Repeats.{repeated}
+use Rattle.definition.specs.declared.Definition.{Definition}
+use Rattle.definition.specs.declared.File.{File}
+use Rattle.layout.specs.declared.Found.{Found}
+use Rattle.layout.specs.declared.Found.the-variants.{At, Nowhere}
+use Rattle.entries.specs.declared.Entry.{Entry}
+use Rattle.nucleus.specs.Nucleus.{Nucleus, max-users, max-capacity, max-et-data, user-at, entries-of}
+use Rattle.nucleus.specs.declared.User.{User}
+use Rattle.nucleus.specs.declared.EtData.{EtData}
+use Rattle.nucleus.specs.declared.State.{State}
+
+-- "Too short: store or image buffer below the size above, or queue below H"; "H not 1 to 256"
+unfoldable pub too-short : Definition → ℕ → List ℕ → List ℕ → List ℕ → Bool
+too-short d capacity store queue images =
+    not (within 1 max-capacity capacity)
+    || ltb (length queue) capacity
+    || ltb (length store) (store-size d)
+    || ltb (length images) (capacity * image-length d)
+
+-- ---- entries: "each within its file and of a user in a transaction"
+abbrev pub within-file : Definition → Found → ℕ → Bool
+within-file d (At i) isn = within 1 (file-at d i .«max_isn») isn
+within-file d Nowhere isn = false
+
+abbrev pub entry-made : State → Entry → Bool
+entry-made s e =
+    within-file (s .definition) (place (s .definition) (e .file)) (e .isn)
+    && (within 1 max-users (e .user) && user-at s (e .user) .active)
+
+-- ---- users: "whoever is in one has a session; no transaction begun after the kept clock"
+abbrev pub user-made : ℕ → User → Bool
+user-made clock u = not (u .active) || (u .session && leb (u .begun) clock)
+
+-- "ET data at most 64 bytes"
+abbrev pub data-made : EtData → Bool
+data-made x = leb (x .length) max-et-data
+
+-- "N1's marks at most the highest ISN", of the files in use
+abbrev pub marks-made : List ℕ → List File → Bool
+marks-made marks [] = true
+marks-made [] (f ∷ fs) = true
+marks-made (m ∷ marks) (f ∷ fs) = leb m (f .«max_isn») && marks-made marks fs
+
+-- "Well made: the kept table is valid, at most H entries, no file and ISN in two, .."
+unfoldable pub well-made : ℕ → Nucleus → Bool
+well-made capacity n =
+    valid (n .state .definition)
+    && leb (n .state .count) capacity
+    && not (repeated (entries-of n))
+    && all (entry-made (n .state)) (entries-of n)
+    && all (user-made (n .state .clock)) (n .state .users)
+    && marks-made (n .state .«last_assigned») (files-of (n .state .definition))
+    && all data-made (n .state .«et_data»)

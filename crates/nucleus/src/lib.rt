@@ -1,0 +1,163 @@
+// The nucleus (document 01): what it keeps between calls, a call, and what a call answers.
+ghost use mathlib.Core.Path.{_≡_};
+ghost use Rattle.nucleus.specs.Users.{opening};
+use definition::Definition;
+use definition::MAX_FILES;
+
+pub const MAX_USERS: usize = 32;
+
+// The most entries that a hold queue may have.
+pub const MAX_CAPACITY: usize = 256;
+
+pub const MAX_ET_DATA: usize = 64;
+
+// The greatest sequence number; it is not passed.
+pub const MAX_SEQUENCE: u32 = 4294967295;
+
+// The thirteen commands, in the order of the table of commands.
+pub enum Command {
+    Hi,
+    Ri,
+    L1,
+    L4,
+    A1,
+    E1,
+    N1,
+    N2,
+    Et,
+    Bt,
+    Re,
+    Op,
+    Cl,
+}
+
+// The table of commands: the code of each, at its place.
+pub const CODES: [[u8; 2]; 13] = [
+    *b"HI",
+    *b"RI",
+    *b"L1",
+    *b"L4",
+    *b"A1",
+    *b"E1",
+    *b"N1",
+    *b"N2",
+    *b"ET",
+    *b"BT",
+    *b"RE",
+    *b"OP",
+    *b"CL",
+];
+
+// The options of a call.
+pub const BLANK: u8 = b' ';
+
+// L1 and L4: the lowest ISN at or above the given one.
+pub const AT_OR_ABOVE: u8 = b'I';
+
+// A1 and E1: take the hold.
+pub const TAKE_HOLD: u8 = b'H';
+
+// OP: access-only.
+pub const ACCESS_ONLY: u8 = b'A';
+
+// A call's arguments, but for its two buffers.
+pub struct Call {
+    pub command: [u8; 2],
+    pub option: u8,
+    pub user: u8,
+    pub file: u8,
+    pub isn: u16,
+    pub limit: u16,
+    // In seconds.
+    pub clock: u32,
+}
+
+// The causes of document 01's response table, in its order; `number` in specs/Responses.antt gives the number of each.
+pub enum Response {
+    Good,
+    DefinitionInvalid,
+    BufferTooShort,
+    StateInvalid,
+    CommandUnknown,
+    UserUnknown,
+    BackedOut,
+    AccessOnly,
+    FileUnknown,
+    IsnInvalid,
+    FormatInvalid,
+    FieldTwice,
+    RecordLength,
+    ValueInvalid,
+    NotFound,
+    HeldByAnother,
+    Presence,
+    NotHeld,
+    AlreadyChanged,
+    FileFull,
+    HoldLimit,
+    QueueFull,
+    ValueTaken,
+}
+
+pub struct Answer {
+    pub response: Response,
+    pub isn: u16,
+    pub quantity: usize,
+    pub sequence: u32,
+}
+
+// A user's session, transaction and mark. What belongs to an ended session or transaction keeps its last values and decides nothing.
+pub struct User {
+    pub session: bool,
+    pub hold_limit: u16,
+    pub time_limit: u16,
+    pub sequence: u32,
+    pub access_only: bool,
+    // In a transaction, and the clock at which that began.
+    pub active: bool,
+    pub begun: u32,
+    // Backed out by the clock, and not told yet.
+    pub overdue: bool,
+}
+
+impl User {
+    pub const HOLD_LIMIT: u16 = 64;
+
+    pub const TIME_LIMIT: u16 = 900;
+
+    pub const SEQUENCE: u32 = 0;
+
+    // A user whose session opens.
+    pub fn opening() -> User
+        ensures { λ r. ⌜ r ≡ opening ⌝ }
+    {
+        User {
+            session: true,
+            hold_limit: User::HOLD_LIMIT,
+            time_limit: User::TIME_LIMIT,
+            sequence: User::SEQUENCE,
+            access_only: false,
+            active: false,
+            begun: 0,
+            overdue: false,
+        }
+    }
+}
+
+// A user's ET data: the first `length` bytes.
+pub struct EtData {
+    pub length: u8,
+    pub bytes: [u8; MAX_ET_DATA],
+}
+
+pub struct State {
+    pub definition: Definition,
+    pub clock: u32,
+    // User 1 first, as in `et_data`.
+    pub users: [User; MAX_USERS],
+    pub et_data: [EtData; MAX_USERS],
+    // The ISN that N1 last gave in each file, by the file's place in the table.
+    pub last_assigned: [u16; MAX_FILES],
+    // The entries in use in the hold queue.
+    pub count: usize,
+}
