@@ -78,7 +78,7 @@ mark-most [] (f ∷ fs) i h t = omega arith
 mark-most (m ∷ marks) (f ∷ fs) zero h t = leb-true m (f .«max_isn») (and-left (leb m (f .«max_isn»)) (marks-made marks fs) t)
 mark-most (m ∷ marks) (f ∷ fs) (suc i) h t = mark-most marks fs i (le-of-suc-le-suc h) (and-right (leb m (f .«max_isn»)) (marks-made marks fs) t)
 
-file-there : (x : Found) → is-file x ≡ true → (i : ℕ) × (x ≡ found-at.At i)
+pub file-there : (x : Found) → is-file x ≡ true → (i : ℕ) × (x ≡ found-at.At i)
 file-there (found-at.At i) h = (i, refl)
 file-there found-at.Nowhere h = not-both false h refl
 
@@ -93,7 +93,7 @@ pub record Aim (r : Request) (n : Nucleus) : Type 0 where
 
 module _ (r : Request) (n : Nucleus) where
   -- A1, E1, N2: the given ISN, or the one that option `I` finds
-  given-inside : one-of (N1 ∷ []) (r .command) ≡ false → (not (eqb (r .call .option) option-I) && not (within 1 (file r n .«max_isn») (r .call .isn))) ≡ false
+  pub given-inside : one-of (N1 ∷ []) (r .command) ≡ false → (not (eqb (r .call .option) option-I) && not (within 1 (file r n .«max_isn») (r .call .isn))) ≡ false
       → none-found r n ≡ false → InFile (file r n) (target-isn r n)
   unfolding target none-found
   given-inside other valid some-found = go (outcome (eqb (r .call .option) option-I))
@@ -121,7 +121,7 @@ module _ (r : Request) (n : Nucleus) where
       (each-number (InFile (file r n)) (last + 1 - 1) 1 (λ m a b. record { least = omega arith; most = omega arith })))))
 
   module _ (s : DefinitionShape (definition-of n)) where
-    aim-at : (i : ℕ) → place (definition-of n) (r .call .file) ≡ found-at.At i → InFile (file r n) (target-isn r n) → Aim r n
+    pub aim-at : (i : ℕ) → place (definition-of n) (r .call .file) ≡ found-at.At i → InFile (file r n) (target-isn r n) → Aim r n
     aim-at i e inside =
         let d = definition-of n in
         let isn = target-isn r n in

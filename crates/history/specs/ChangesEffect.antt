@@ -102,6 +102,7 @@ pub record Changed (capacity : ℕ) (r : Request) (n : Nucleus) (x : Slot) (m : 
   pub clock : m .state .clock ≡ held r (target-isn r n) n .state .clock
   pub users : m .state .users ≡ held r (target-isn r n) n .state .users
   pub data-kept : m .state .«et_data» ≡ held r (target-isn r n) n .state .«et_data»
+  pub marks : m .state .«last_assigned» ≡ held r (target-isn r n) n .state .«last_assigned»
   pub count : m .state .count ≡ held r (target-isn r n) n .state .count
   pub store : m .store ≡ put (definition-of n) (n .store) (key (r .call .file) (target-isn r n)) x
   pub queue : queue-of (definition-of n) (m .queue) (m .images) (m .state .count)
@@ -165,6 +166,7 @@ module _ (capacity : ℕ) (r : Request) (n : Nucleus) (s : DefinitionShape (defi
     clock = refl;
     users = refl;
     data-kept = refl;
+    marks = refl;
     count = refl;
     store = image-put x;
     queue = image-queue;

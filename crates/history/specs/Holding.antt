@@ -150,3 +150,11 @@ module _ (capacity : ℕ) (lent : List ℕ) (n : Nucleus) (j : Journal) (k : Kep
       go : Outcome (held-by u (holder-of r n isn)) → Kept capacity lent (held r isn n) (begun u j)
       go (holds his) = rw (held-his r isn n his, begun-same (has-entry his)) k
       go (fails new) = rw (held-new r isn n new, begun-is) (anew new)
+
+  -- the caller is in a transaction then
+  pub held-active : is-active (held r isn n .state .users) u ≡ true
+  held-active = go (outcome (held-by u (holder-of r n isn)))
+    where
+      go : Outcome (held-by u (holder-of r n isn)) → is-active (held r isn n .state .users) u ≡ true
+      go (holds his) = rw (held-his r isn n his, within-inside 1 max-users u (s .least) (s .most)) (has-entry his)
+      go (fails new) = rw (held-new r isn n new) new-active

@@ -6,7 +6,7 @@ use mathlib.Core.List.{List, [], _∷_, _++_, map}
 use mathlib.Core.Option.{Option, none, some}
 use lib.Dec.{eqb}
 use lib.ListN.{getD, set, replicate}
-use Rattle.lists.specs.Tests.{cond}
+use Rattle.lists.specs.Tests.{cond, within}
 use Rattle.lists.specs.Folds.{any}
 use Rattle.lists.specs.Sift.{sift}
 use Rattle.definition.specs.Table.{fields-of}
@@ -71,8 +71,9 @@ abbrev pub started : Option ℕ → Bool
 started none = false
 started (some begun) = true
 
+-- "a user whom the book has in a transaction"
 abbrev pub in-transaction : Journal → ℕ → Bool
-in-transaction j u = started (member j u .start)
+in-transaction j u = within 1 max-users u && started (member j u .start)
 
 -- ---- what it does
 -- "his open changes are struck, his transaction ends"

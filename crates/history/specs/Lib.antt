@@ -23,3 +23,7 @@ pub mod Changes
 pub mod ChangesLogged
 pub mod ChangesEffect
 pub mod ChangesAllowed
+pub mod Changing
+pub mod Serving
+pub mod Stepping
+pub mod Resting

@@ -28,7 +28,7 @@ module _ (capacity : ℕ) (lent : List ℕ) where
     user-known u = all-getD (user-sound (n .state .clock)) (n .state .users) (u - 1) fresh-user (k .people .users-sound) refl
 
     -- the journal has him late where the nucleus has him due
-    late-as-due : (u : ℕ) → is-late (j .clock) (member j u .limit) (member j u .start) ≡ is-due (n .state .clock) (user-of n u)
+    pub late-as-due : (u : ℕ) → is-late (j .clock) (member j u .limit) (member j u .start) ≡ is-due (n .state .clock) (user-of n u)
     late-as-due u = rw (member-is (n .state .users) u j (k .told .same-members), k .told .same-clock) (go (outcome (user-of n u .active)))
       where
         go : Outcome (user-of n u .active) → is-late (n .state .clock) (member-of (user-of n u) .limit) (start-of (user-of n u)) ≡ is-due (n .state .clock) (user-of n u)

@@ -1,0 +1,149 @@
+-- What is kept where A1, E1, N1 or N2 changes a record.
+-- Assumes nothing.
+use Prim.Native.Nat.{ℕ, _-_, _≤_, _<_}
+use native.Mathlib.Omega.{arith}
+use mathlib.Core.Path.{_≡_, refl, sym, ap, subst, _∙_}
+use mathlib.Core.Bool.{Bool, true, false, not, _||_}
+use mathlib.Core.List.{List, [], _∷_, _++_, map}
+use mathlib.Core.Option.{none, some}
+use lib.Dec.{ltb}
+use lib.ListN.{length}
+use borrow.Author.Tests.{lt-ltb}
+use Rattle.lists.specs.Tests.{within-inside}
+use Rattle.lists.specs.Folds.{all}
+use Rattle.lists.specs.Sift.{all-append}
+use Rattle.definition.specs.Table.{files-of}
+use Rattle.definition.specs.Shape.{DefinitionShape}
+use Rattle.definition.specs.declared.Definition.{Definition}
+use Rattle.transactions.specs.Slots.{Slot}
+use Rattle.transactions.specs.Machine as machine
+use Rattle.transactions.specs.Theorems.{Invariant, kept-act}
+use Rattle.ground.specs.Keys.{isn-bound, key}
+use Rattle.ground.specs.Store.{put}
+use Rattle.ground.specs.Ground.{ground}
+use Rattle.ground.specs.Queue.{queue-of, Made}
+use Rattle.nucleus.specs.Nucleus.{Nucleus, Request, entries-of}
+use Rattle.nucleus.specs.WellMade.{marks-made, data-made}
+use Rattle.nucleus.specs.Target.{target-isn}
+use Rattle.nucleus.specs.Effects.{held}
+use Rattle.nucleus.specs.declared.User.{User}
+use Rattle.history.specs.Journal.{Journal, Change, begun, changed}
+use Rattle.history.specs.Updates.{updates, logged}
+use Rattle.history.specs.Kept.{Kept, Sized, People, Told, Rested, definition-of, ground-of, seen, is-active, entry-active, change-sound}
+use Rattle.history.specs.Accepted.{Accepted}
+use Rattle.history.specs.Logs.{log-change}
+use Rattle.history.specs.Ends.{laws-of}
+use Rattle.history.specs.Passing.{Passed}
+use Rattle.history.specs.HoldMoves.{His, his-entry, held-definition, held-store, held-same, his-held, seen-held, made-held}
+use Rattle.history.specs.Holding.{Serving, Holdable, kept-held, held-active}
+use Rattle.history.specs.Performing.{rested-held}
+use Rattle.history.specs.Changes.{Changes, Aim, aim}
+use Rattle.history.specs.ChangesLogged.{update-of, slot-of}
+use Rattle.history.specs.ChangesAllowed.{file-update, no-other, room-left, machine-applied, change-allowed}
+use Rattle.history.specs.ChangesEffect.{Holding, Changed, users-same}
+
+module _ (lent : List ℕ) (n : Nucleus) (j : Journal) (r : Request) (p : Passed (r .capacity) lent n j) (s : Serving (r .call .user) n) (a : Accepted r n) (c : Changes r) where
+  abbrev capacity : ℕ
+  capacity = r .capacity
+
+  abbrev k : Kept capacity lent n j
+  k = p .kept
+
+  abbrev d : Definition
+  d = definition-of n
+
+  abbrev u : ℕ
+  u = r .call .user
+
+  abbrev isn : ℕ
+  isn = target-isn r n
+
+  abbrev key-at : ℕ
+  key-at = key (r .call .file) isn
+
+  abbrev made : Made d capacity (n .store) (n .queue) (n .images) (n .state .count)
+  made = k .sized .made
+
+  t : Aim r n
+  t = aim r n (k .sized .shape) (k .marks-sound) a c
+
+  -- ---- the hold
+  pub holdable : Holdable capacity r isn n
+  holdable = record { small = t .small; inside = t .known; mine = no-other r n a c; room = room-left r n a c }
+
+  small-user : u < 256
+  small-user = omega (arith, s .most)
+
+  pub holding-here : Holding capacity r n isn
+  holding-here =
+      let e = his-entry u _ (his-held n capacity made (k .sized .shape) r isn (t .small) (t .known) small-user (holdable .mine) (holdable .room)) in
+      record {
+        at = e .at;
+        entry = e .entry;
+        found = e .found;
+        definition = held-definition r isn n;
+        store = held-store r isn n;
+        queue = seen-held n capacity made (k .sized .shape) r isn (t .small) (t .known) small-user (holdable .mine) (holdable .room);
+        made = made-held n capacity made (k .sized .shape) r isn (t .small) (t .known) small-user (holdable .mine) (holdable .room);
+      }
+
+  abbrev before : Kept capacity lent (held r isn n) (begun u j)
+  before = kept-held capacity lent n j k r isn s holdable
+
+  -- ---- the argument of requirement 3
+  abbrev logged-now : Journal
+  logged-now = changed (r .call) isn (update-of r c) (begun u j)
+
+  -- ---- the nucleus that it leaves
+  module _ (m : Nucleus) (ch : Changed capacity r n (slot-of r n c) m) where
+    abbrev us : List User
+    us = held r isn n .state .users
+
+    moved : machine.act (ground-of lent n) (machine.change u key-at (file-update r c)) (seen lent n)
+        ≡ record { store = m .store; queue = queue-of d (m .queue) (m .images) (m .state .count) }
+    unfolding machine.act
+    moved = λ i. record {
+      store = sym (ch .store ∙ ap (put d (n .store) key-at) (sym (machine-applied r n (k .sized .shape) capacity made t a c))) i;
+      queue = sym (ch .queue) i;
+    }
+
+    invariant-here : Invariant (ground-of lent n) (record { store = m .store; queue = queue-of d (m .queue) (m .images) (m .state .count) }) (logged (logged-now .changes))
+    unfolding begun changed
+    invariant-here =
+        rw (moved, log-change d lent u (r .call .file) isn (update-of r c) (j .changes)) at
+        (kept-act (ground-of lent n) (laws-of capacity lent n (k .sized)) (seen lent n) (logged (j .changes)) (k .invariant) (machine.change u key-at (file-update r c))
+        (change-allowed r n (k .sized .shape) capacity made t a c lent))
+
+    -- ---- and all else
+    sized-here : Sized capacity d (m .store) (m .queue) (m .images) (m .state .count)
+    sized-here = record { shape = k .sized .shape; valid = k .sized .valid; capacity-sound = k .sized .capacity-sound; made = ch .made }
+
+    people-here : People (held r isn n .state .clock) us (entries-of m)
+    people-here = record {
+      user-count = before .people .user-count;
+      users-sound = before .people .users-sound;
+      entries-active = users-same (is-active us) (entries-of m) (entries-of (held r isn n)) (ch .holds-same) ∙ before .people .entries-active;
+    }
+
+    told-here : Told (held r isn n .state .clock) us logged-now
+    unfolding changed
+    told-here = record {
+      same-clock = before .told .same-clock;
+      same-members = before .told .same-members;
+      changes-sound =
+          all-append (change-sound us) (begun u j .changes) _ (before .told .changes-sound)
+          (rw (lt-ltb isn isn-bound (t .small), held-active capacity lent n j k r isn s holdable));
+    }
+
+    pub kept-changed : Kept capacity lent m logged-now
+    kept-changed = record {
+      sized = subst (λ x. Sized capacity x (m .store) (m .queue) (m .images) (m .state .count)) (sym (ch .definition)) sized-here;
+      people = rw (ch .clock, ch .users) people-here;
+      marks-sound = rw (ch .marks, ch .definition, held-same r isn n (λ x. x .state .«last_assigned») refl) (k .marks-sound);
+      data-sound = rw (ch .data-kept) (before .data-sound);
+      told = rw (ch .clock, ch .users) told-here;
+      invariant = subst (λ x. Invariant (ground x (updates x) lent) (record { store = m .store; queue = queue-of x (m .queue) (m .images) (m .state .count) }) (logged (logged-now .changes))) (sym (ch .definition)) invariant-here;
+    }
+
+    pub passed-changed : Passed capacity lent m logged-now
+    passed-changed = record { kept = kept-changed; rested = rw (ch .clock, ch .users) (rested-held n (p .rested) r isn) }

@@ -1,0 +1,244 @@
+-- A call past its clock: whatever it answers, what is kept stays so, and the journal is told the same.
+-- Assumes nothing.
+use Prim.Native.Nat.{ℕ, _-_, _≤_, _<_}
+use native.Mathlib.Omega.{arith}
+use mathlib.Core.Path.{_≡_, refl, sym, ap, _∙_}
+use mathlib.Core.Bool.{Bool, true, false, not, _&&_, _||_}
+use mathlib.Core.List.{List, [], _∷_}
+use mathlib.Core.Logic.{_⊎_, inl, inr}
+use mathlib.Core.Option.{Option, none, some}
+use lib.Dec.{eqb, ltb}
+use lib.ListN.{length}
+use borrow.Author.Tests.{eqb-true, not-true, not-false, leb-false}
+use Rattle.lists.specs.Tests.{and-false, cond, Outcome, holds, fails, outcome, within, within-most, not-both, and-left, and-right, or-left, or-right}
+use Rattle.lists.specs.Folds.{all}
+use Rattle.definition.specs.Table.{file-at, file-count}
+use Rattle.definition.specs.Shape.{file-shape-at}
+use Rattle.queue.specs.Queue.{holder}
+use Rattle.images.specs.declared.Removal.the-variants.{One, Unchanged}
+use Rattle.layout.specs.declared.Found.the-variants as found-at
+use Rattle.ground.specs.Keys.{isn-bound}
+use Rattle.nucleus.specs.Commands.{one-of, has-option, blank, option-I, option-H, option-A}
+use Rattle.nucleus.specs.Responses.{number}
+use Rattle.nucleus.specs.Nucleus.{Nucleus, Request, Result, max-users, max-et-data, user-of, entries-of}
+use Rattle.nucleus.specs.Target.{is-file, held-by, held-by-other, changed-in, found, file, holder-of, target, target-isn}
+use Rattle.nucleus.specs.Clock.{removed}
+use Rattle.nucleus.specs.Rows.{new-record, Row, first-cause, rows-last, his, access-refused, file-unknown, isn-invalid, record-length-refused, held-elsewhere, not-held, release-refused, queue-full}
+use Rattle.nucleus.specs.Effects.{held, effect-at, released, written, erased, with-last}
+use Rattle.nucleus.specs.Step.{unless, refusal, perform}
+use Rattle.nucleus.specs.declared.Command.{Command}
+use Rattle.nucleus.specs.declared.Command.the-variants.{Hi, Ri, L1, L4, A1, E1, N1, N2, Et, Bt, Re, Op, Cl}
+use Rattle.nucleus.specs.declared.Response.{Response}
+use Rattle.history.specs.Journal.{Journal, add, begun, changed, is-early, answered}
+use Rattle.history.specs.Kept.{Kept, Rested, definition-of}
+use Rattle.history.specs.Accepted.{Accepted, accepted, is-cause}
+use Rattle.history.specs.Keeping.{kept-mark}
+use Rattle.history.specs.Passing.{Passed}
+use Rattle.history.specs.Holding.{Serving, Holdable}
+use Rattle.history.specs.Releasing.{kept-release, kept-release-all}
+use Rattle.history.specs.Performing.{passed-held, passed-backed-out, passed-ended, passed-opened, passed-closed}
+use Rattle.history.specs.Changes.{Changes, replaces, erases, adds, adds-there, rest-fails, Aim, aim, file-there, given-inside, aim-at}
+use Rattle.history.specs.ChangesLogged.{update-of, slot-of}
+use Rattle.history.specs.ChangesEffect.{Changed, written-changed, erased-changed}
+use Rattle.history.specs.Changing.{holding-here, passed-changed}
+
+-- ---- a cause that is neither 0 nor 9, nor of 72's row or an earlier one
+abbrev pub plain : Response → Bool
+plain c = not (eqb (number c) 0) && not (eqb (number c) 9) && not (is-early (number c))
+
+-- the causes of the last rows are so
+pub first-plain : (rs : List Row) → all (λ (r : Row). plain (r .cause)) rs ≡ true → (c : Response) → first-cause rs ≡ some c → plain c ≡ true
+first-plain [] h c e = not-both false (ap is-cause e) refl
+first-plain (r ∷ rs) h c e = go (outcome (r .holds)) (first-plain rs (and-right (plain (r .cause)) (all (λ (x : Row). plain (x .cause)) rs) h) c)
+  where
+    go : Outcome (r .holds) → (first-cause rs ≡ some c → plain c ≡ true) → plain c ≡ true
+    go (holds t) later = let same : r .cause ≡ c = cc (rw t at e) in rw (← same) (and-left (plain (r .cause)) (all (λ (x : Row). plain (x .cause)) rs) h)
+    go (fails t) later = later (rw t at e)
+
+-- a row that fails although its second part holds
+front-fails : (a b : Bool) → b ≡ true → (a && b) ≡ false → a ≡ false
+front-fails true b t h = not-both b t h
+front-fails false b t h = refl
+
+-- ---- a caller whose session is open
+pub record Ready (r : Request) (n : Nucleus) : Type 0 where
+  pub least : 1 ≤ r .call .user
+  pub most : r .call .user ≤ max-users
+  pub session : user-of n (r .call .user) .session ≡ true
+  pub unmarked : user-of n (r .call .user) .overdue ≡ false
+  pub idle : one-of (Op ∷ Cl ∷ []) (r .command) ≡ true → user-of n (r .call .user) .active ≡ false
+  pub option : has-option (r .command) (r .call .option) ≡ true
+
+-- what a call answers and leaves, beside what the journal makes of it
+pub record Served (lent : List ℕ) (r : Request) (j : Journal) (c : Command) (x : Result) : Type 0 where
+  pub passed : Passed (r .capacity) lent (x .nucleus) (answered (some c) (r .call) (r .format) (r .buffer) (number (x .answer .response)) (x .answer .isn) j)
+  pub not-early : is-early (number (x .answer .response)) ≡ false
+
+module _ (lent : List ℕ) (n : Nucleus) (j : Journal) (r : Request) (p : Passed (r .capacity) lent n j) (y : Ready r n) (a : Accepted r n) where
+  abbrev u : ℕ
+  u = r .call .user
+
+  abbrev isn : ℕ
+  isn = target-isn r n
+
+  abbrev k : Kept (r .capacity) lent n j
+  k = p .kept
+
+  -- row 29
+  serving : one-of (Op ∷ Cl ∷ L1 ∷ Re ∷ []) (r .command) ≡ false → Serving u n
+  unfolding access-refused
+  serving other = record {
+    least = y .least;
+    most = y .most;
+    session = y .session;
+    unmarked = y .unmarked;
+    changing = front-fails (user-of n u .«access_only») (not (one-of (Op ∷ Cl ∷ L1 ∷ Re ∷ []) (r .command))) (rw other) (a .access);
+  }
+
+  -- rows 17, 113 and 3: the ISN given, or the one found
+  given-aim : one-of (N1 ∷ []) (r .command) ≡ false → is-file (found r n) ≡ true
+      → (not (eqb (r .call .option) option-I) && not (within 1 (file r n .«max_isn») (r .call .isn))) ≡ false → Aim r n
+  given-aim other there valid =
+      let x = file-there (found r n) there in
+      aim-at r n (k .sized .shape) (x .0) (x .1) (given-inside r n other valid (a .found))
+
+  -- rows 145 and 70
+  holdable-at : one-of (Hi ∷ L4 ∷ A1 ∷ E1 ∷ N1 ∷ N2 ∷ []) (r .command) ≡ true → Aim r n → Holdable (r .capacity) r isn n
+  unfolding held-elsewhere queue-full
+  holdable-at held-one t = record {
+    small = t .small;
+    inside = t .known;
+    mine = rest-fails _ _ held-one (a .mine);
+    room = λ new. leb-false (r .capacity) (n .state .count) (rest-fails (one-of (Hi ∷ L4 ∷ A1 ∷ E1 ∷ N1 ∷ N2 ∷ []) (r .command) && not (his r n)) _ (rw (held-one, new)) (a .room));
+  }
+
+  -- ---- HI and L4
+  module _ (c : (r .command ≡ Hi) ⊎ (r .command ≡ L4)) where
+    there : is-file (found r n) ≡ true
+    unfolding file-unknown
+    there = go c
+      where
+        go : (r .command ≡ Hi) ⊎ (r .command ≡ L4) → is-file (found r n) ≡ true
+        go (inl e) = not-false _ (rw e at (a .file))
+        go (inr e) = not-false _ (rw e at (a .file))
+
+    valid : (not (eqb (r .call .option) option-I) && not (within 1 (file r n .«max_isn») (r .call .isn))) ≡ false
+    unfolding isn-invalid
+    valid = go c
+      where
+        go : (r .command ≡ Hi) ⊎ (r .command ≡ L4) → (not (eqb (r .call .option) option-I) && not (within 1 (file r n .«max_isn») (r .call .isn))) ≡ false
+        go (inl e) = rw e at (a .isn)
+        go (inr e) = rw e at (a .isn)
+
+    -- of these two a test says one thing
+    as-both : (t : Command → Bool) (b : Bool) → t Hi ≡ b → t L4 ≡ b → t (r .command) ≡ b
+    as-both t b h l = go c
+      where
+        go : (r .command ≡ Hi) ⊎ (r .command ≡ L4) → t (r .command) ≡ b
+        go (inl e) = rw e h
+        go (inr e) = rw e l
+
+    holds-isn : Passed (r .capacity) lent (held r isn n) (begun u j)
+    holds-isn =
+        passed-held (r .capacity) lent n j p r isn (serving (as-both (one-of (Op ∷ Cl ∷ L1 ∷ Re ∷ [])) false refl refl))
+        (holdable-at (as-both (one-of (Hi ∷ L4 ∷ A1 ∷ E1 ∷ N1 ∷ N2 ∷ [])) true refl refl) (given-aim (as-both (one-of (N1 ∷ [])) false refl refl) there valid))
+
+  -- ---- RI
+  module _ (e : r .command ≡ Ri) where
+    -- row 22: it has no option but the blank
+    no-option : eqb (r .call .option) option-I ≡ false
+    unfolding has-option
+    no-option = go (outcome (eqb (r .call .option) blank))
+      where
+        go : Outcome (eqb (r .call .option) blank) → eqb (r .call .option) option-I ≡ false
+        go (holds t) = rw (eqb-true (r .call .option) blank t)
+        go (fails t) = not-both false (rw (e, t, and-false (eqb (r .call .option) option-I), and-false (eqb (r .call .option) option-H), and-false (eqb (r .call .option) option-A)) at (y .option)) refl
+
+    target-is : isn ≡ r .call .isn
+    unfolding target
+    target-is = rw (e, no-option)
+
+    -- of one ISN
+    module _ (one : eqb (r .call .isn) 0 ≡ false) where
+      released-aim : Aim r n
+      unfolding file-unknown isn-invalid
+      released-aim = given-aim (rw e) (not-false _ (rw (e, one) at (a .file))) (rw (e, one) at (a .isn))
+
+      released-his : held-by u (holder-of r n isn) ≡ true
+      unfolding not-held
+      released-his =
+          let needs : ((one-of (A1 ∷ E1 ∷ []) (r .command) && not (eqb (r .call .option) option-H)) || (one-of (Ri ∷ []) (r .command) && not (eqb (r .call .isn) 0))) ≡ true = rw (e, one) in
+          not-false (his r n) (rest-fails _ (not (his r n)) needs (a .held))
+
+      released-new : changed-in (holder-of r n (r .call .isn)) ≡ false
+      unfolding release-refused
+      released-new = rw (e, one) at (a .unchanged)
+
+      released-one : Kept (r .capacity) lent (removed (One (r .call .file) (r .call .isn)) n) j
+      released-one =
+          kept-release (r .capacity) lent n j k u (r .call .file) (r .call .isn) (rw target-is at (released-aim .small)) (rw target-is at released-his) released-new
+
+    released-kept : Kept (r .capacity) lent (released r n) j
+    released-kept = go (outcome (eqb (r .call .isn) 0))
+      where
+        go : Outcome (eqb (r .call .isn) 0) → Kept (r .capacity) lent (released r n) j
+        go (holds t) = rw t (kept-release-all (r .capacity) lent n j k u)
+        go (fails t) = rw t (released-one t)
+
+    released-rested : Rested (released r n)
+    unfolding removed
+    released-rested = go (eqb (r .call .isn) 0)
+      where
+        go : (b : Bool) → Rested (cond b (removed (Unchanged u) n) (removed (One (r .call .file) (r .call .isn)) n))
+        go true = p .rested
+        go false = p .rested
+
+  -- ---- A1, E1, N1, N2
+  module _ (c : Changes r) (s : Serving u n) where
+    changes-to : (m : Nucleus) → Changed (r .capacity) r n (slot-of r n c) m → Passed (r .capacity) lent m (changed (r .call) isn (update-of r c) (begun u j))
+    changes-to m ch = passed-changed lent n j r p s a c m ch
+
+    to-written : Changed (r .capacity) r n (some (new-record r n isn)) (written r isn n)
+    to-written = written-changed (r .capacity) r n (k .sized .shape) (aim r n (k .sized .shape) (k .marks-sound) a c) (holding-here lent n j r p s a c)
+
+    to-erased : Changed (r .capacity) r n none (erased r isn n)
+    to-erased = erased-changed (r .capacity) r n (k .sized .shape) (aim r n (k .sized .shape) (k .marks-sound) a c) (holding-here lent n j r p s a c)
+
+  -- N1 keeps its mark
+  marked-last : (e : r .command ≡ N1) → Passed (r .capacity) lent (with-last r (found r n) isn (written r isn n)) (changed (r .call) isn (add (r .format) (r .buffer)) (begun u j))
+  marked-last e =
+      let c : Changes r = adds e in
+      let s = serving (rw e) in
+      let t = aim r n (k .sized .shape) (k .marks-sound) a c in
+      let ch = to-written c s in
+      let after = changes-to c s (written r isn n) ch in
+      rw (t .found)
+      (record {
+        kept = kept-mark (r .capacity) lent (written r isn n) _ (after .kept) (t .at) isn (rw (ch .definition) (t .in-use)) (rw (ch .definition) (t .inside .most));
+        rested = after .rested;
+      })
+
+  -- ---- ET
+  data-short : r .command ≡ Et → ltb max-et-data (length (r .buffer)) ≡ false
+  unfolding record-length-refused
+  data-short e = rw e at (a .length)
+
+  -- ---- each command
+  pub served-effect : (c : Command) → r .command ≡ c → Served lent r j c (effect-at r isn c n)
+  unfolding effect-at
+  served-effect Hi e = record { passed = holds-isn (inl e); not-early = refl }
+  served-effect Ri e = record { passed = record { kept = released-kept e; rested = released-rested e }; not-early = refl }
+  served-effect L1 e = record { passed = p; not-early = refl }
+  served-effect L4 e = record { passed = holds-isn (inr e); not-early = refl }
+  served-effect A1 e = record { passed = changes-to (replaces e) (serving (rw e)) _ (to-written (replaces e) (serving (rw e))); not-early = refl }
+  served-effect E1 e = record { passed = changes-to (erases e) (serving (rw e)) _ (to-erased (erases e) (serving (rw e))); not-early = refl }
+  served-effect N1 e = record { passed = marked-last e; not-early = refl }
+  served-effect N2 e = record { passed = changes-to (adds-there e) (serving (rw e)) _ (to-written (adds-there e) (serving (rw e))); not-early = refl }
+  served-effect Et e = record { passed = passed-ended (r .capacity) lent n j p r (y .least) (y .most) (data-short e); not-early = refl }
+  served-effect Bt e = record { passed = passed-backed-out (r .capacity) lent n j p r (y .least) (y .most); not-early = refl }
+  served-effect Re e = record { passed = p; not-early = refl }
+  served-effect Op e = record {
+    passed = passed-opened (r .capacity) lent n j p r (y .least) (y .most) (y .idle (rw e)) (y .session) (r .call .isn) (r .call .limit) (eqb (r .call .option) option-A);
+    not-early = refl;
+  }
+  served-effect Cl e = record { passed = passed-closed (r .capacity) lent n j p r (y .least) (y .most) (y .idle (rw e)); not-early = refl }

@@ -1,0 +1,259 @@
+-- One call, from its first row to its effect: what is kept stays so, nobody is overdue, and the journal is told the same.
+-- Assumes nothing.
+use Prim.Native.Nat.{ℕ, _-_, _≤_, _<_}
+use mathlib.Core.Path.{_≡_, refl, sym, ap, _∙_}
+use mathlib.Core.Bool.{Bool, true, false, not, _&&_, _||_}
+use mathlib.Core.List.{List, [], _∷_}
+use mathlib.Core.Option.{Option, none, some}
+use lib.Dec.{eqb, ltb}
+use lib.ListN.{set}
+use lib.Seq.{set-getD}
+use borrow.Author.Tests.{eqb-true, not-true, not-false}
+use Rattle.lists.specs.Tests.{and-false, cond, Outcome, holds, fails, outcome, within, within-least, within-most, not-both, and-left, and-right}
+use Rattle.lists.specs.Folds.{any, all}
+use Rattle.lists.specs.Sift.{sift}
+use Rattle.ground.specs.Keys.{isn-bound}
+use Rattle.nucleus.specs.Commands.{command-of, one-of, has-option}
+use Rattle.nucleus.specs.Users.{opening, opened, marked, is-due}
+use Rattle.nucleus.specs.Responses.{number}
+use Rattle.nucleus.specs.Nucleus.{Nucleus, Request, Result, max-users, user-of, change-user}
+use Rattle.nucleus.specs.Clock as nucleus
+use Rattle.nucleus.specs.Clock.{backed-out}
+use Rattle.nucleus.specs.Rows.{row, first-cause, rows-first, rows-after-clock, rows-last, understood, overdue-mark, ends-active}
+use Rattle.nucleus.specs.Effects.{effect}
+use Rattle.nucleus.specs.Step.{unless, refusal, perform, told, serve, request, serve-command, step}
+use Rattle.nucleus.specs.declared.Command.{Command}
+use Rattle.nucleus.specs.declared.Command.the-variants.{Op, Cl}
+use Rattle.nucleus.specs.declared.Call.{Call}
+use Rattle.nucleus.specs.declared.Response.{Response}
+use Rattle.nucleus.specs.declared.Response.the-variants.{BackedOut, CommandUnknown, UserUnknown}
+use Rattle.nucleus.specs.declared.User.{User}
+use Rattle.history.specs.Journal as journal
+use Rattle.history.specs.Journal.{Journal, Change, new-member, member, strikes, struck, is-early, answered, fed}
+use Rattle.history.specs.Run.{Given, World, result, called}
+use Rattle.history.specs.Kept.{Kept, Rested, definition-of, user-sound, is-active, change-sound, member-of, one-of-users}
+use Rattle.history.specs.Accepted.{accepted, is-cause}
+use Rattle.history.specs.People.{all-implies, active-sound, sound-idle, user-own, member-is}
+use Rattle.history.specs.Keeping.{kept-like}
+use Rattle.history.specs.Ends.{kept-backed-out}
+use Rattle.history.specs.Passing.{Passed, user-known, passed-clock}
+use Rattle.history.specs.Standing.{well-made-kept, long-kept}
+use Rattle.history.specs.Performing.{quiet-user, rested-set, idle-quiet, passed-backed-out}
+use Rattle.history.specs.Serving.{plain, first-plain, Ready, Served, served-effect}
+
+-- ---- the rows of 29 and after, and the effect
+module _ (lent : List ℕ) (n : Nucleus) (j : Journal) (r : Request) (p : Passed (r .capacity) lent n j) (y : Ready r n) where
+  -- a refusal that is neither 0 nor 9 tells the journal nothing but the clock
+  refused-plain : (c : Response) → plain c ≡ true → Served lent r j (r .command) (refusal (r .buffer) n c)
+  refused-plain c h =
+      let zero : eqb (number c) 0 ≡ false = not-true _ (search (and-left, and-right)) in
+      let nine : eqb (number c) 9 ≡ false = not-true _ (search (and-left, and-right)) in
+      let early : is-early (number c) ≡ false = not-true _ (search (and-left, and-right)) in
+      record { passed = rw (zero, nine) p; not-early = early }
+
+  pub performed : Served lent r j (r .command) (perform r n)
+  unfolding perform
+  performed = go (first-cause (rows-last r n)) refl
+    where
+      go : (x : Option Response) → first-cause (rows-last r n) ≡ x → Served lent r j (r .command) (unless x (refusal (r .buffer) n) (effect r n))
+      go none e = served-effect lent n j r p y (accepted r n (ap is-cause e)) (r .command) refl
+      go (some c) e = refused-plain c (first-plain (rows-last r n) refl c e)
+
+-- ---- a user in no transaction has nothing to strike
+sift-all : {A : Type 0} (p : A → Bool) (xs : List A) → all p xs ≡ true → sift p xs ≡ xs
+sift-all p [] h = refl
+sift-all p (x ∷ xs) h = rw (and-left (p x) (all p xs) h) (ap (λ l. x ∷ l) (sift-all p xs (and-right (p x) (all p xs) h)))
+
+module _ (capacity : ℕ) (lent : List ℕ) (n : Nucleus) (j : Journal) (k : Kept capacity lent n j) (u : ℕ) (idle : user-of n u .active ≡ false) where
+  not-struck : (c : Change) → change-sound (n .state .users) c ≡ true → not (strikes u c) ≡ true
+  not-struck c h = go (outcome (c .uncommitted)) (outcome (eqb (c .user) u))
+    where
+      small : ltb (c .isn) isn-bound ≡ true
+      small = and-left (ltb (c .isn) isn-bound) (not (c .uncommitted) || is-active (n .state .users) (c .user)) h
+
+      go : Outcome (c .uncommitted) → Outcome (eqb (c .user) u) → not (strikes u c) ≡ true
+      go (holds o) (holds t) =
+          let a : is-active (n .state .users) (c .user) ≡ true = rw (small, o) at h in
+          not-both (user-of n u .active) (and-right (within 1 max-users u) (user-of n u .active) (rw (eqb-true (c .user) u t) at a)) idle
+      go (holds o) (fails t) = rw (o, t)
+      go (fails o) t = rw o
+
+  pub struck-idle : struck u j ≡ j
+  unfolding struck
+  struck-idle = λ i. record { clock = j .clock; members = members i; changes = changes i }
+    where
+      same : record { limit = member j u .limit; start = none } ≡ member j u
+      same = rw (member-is (n .state .users) u j (k .told .same-members), idle)
+
+      members : set (j .members) (u - 1) (record { limit = member j u .limit; start = none }) ≡ j .members
+      members = ap (set (j .members) (u - 1)) same ∙ set-getD (j .members) (u - 1) new-member
+
+      changes : sift (λ c. not (strikes u c)) (j .changes) ≡ j .changes
+      changes = sift-all (λ c. not (strikes u c)) (j .changes) (all-implies (change-sound (n .state .users)) (λ c. not (strikes u c)) not-struck (j .changes) (k .told .changes-sound))
+
+-- ---- the rows of 9, and the session that opens
+module _ (lent : List ℕ) (n : Nucleus) (j : Journal) (r : Request) (p : Passed (r .capacity) lent n j)
+    (least : 1 ≤ r .call .user) (most : r .call .user ≤ max-users) (option : has-option (r .command) (r .call .option) ≡ true) where
+  abbrev u : ℕ
+  u = r .call .user
+
+  abbrev x : User
+  x = user-of n u
+
+  abbrev k : Kept (r .capacity) lent n j
+  k = p .kept
+
+  sound : user-sound (n .state .clock) x ≡ true
+  sound = user-known (r .capacity) lent n j k u
+
+  -- a user who is marked is in no transaction
+  marked-idle : x .overdue ≡ true → x .active ≡ false
+  marked-idle m = go (outcome (x .active))
+    where
+      go : Outcome (x .active) → x .active ≡ false
+      go (holds a) = not-both (x .overdue) m (active-sound (n .state .clock) x sound a .unmarked)
+      go (fails a) = a
+
+  passed-like : (z : User) → user-sound (n .state .clock) z ≡ true → z .active ≡ x .active → member-of z ≡ member-of x → is-due (n .state .clock) z ≡ false
+      → Passed (r .capacity) lent (change-user u (λ w. z) n) j
+  passed-like z s a m q = record {
+    kept = kept-like (r .capacity) lent n j k u least most z s a m;
+    rested = rested-set n (p .rested) u z q;
+  }
+
+  -- the mark is cleared; for OP and CL the journal backs out whom it has in no transaction
+  served-marked : x .overdue ≡ true → Served lent r j (r .command) (refusal (r .buffer) (change-user u (marked false) n) BackedOut)
+  served-marked m = record { passed = go (one-of (Op ∷ Cl ∷ []) (r .command)); not-early = refl }
+    where
+      cleared : Passed (r .capacity) lent (change-user u (marked false) n) j
+      cleared =
+          passed-like (marked false x) (sound-idle (n .state .clock) (marked false x) (marked-idle m)) refl refl (idle-quiet n (p .rested) (marked false x) (marked-idle m))
+
+      go : (b : Bool) → Passed (r .capacity) lent (change-user u (marked false) n) (cond b (struck u j) j)
+      go true = rw (struck-idle (r .capacity) lent n j k u (marked-idle m)) cleared
+      go false = cleared
+
+  -- OP or CL in a transaction
+  served-out : one-of (Op ∷ Cl ∷ []) (r .command) ≡ true → Served lent r j (r .command) (refusal (r .buffer) (backed-out u n) BackedOut)
+  served-out e = record { passed = rw e (passed-backed-out (r .capacity) lent n j p r least most); not-early = refl }
+
+  -- ---- the session
+  opened-active : opened x .active ≡ x .active
+  opened-active = go (outcome (x .session)) (outcome (x .active))
+    where
+      go : Outcome (x .session) → Outcome (x .active) → opened x .active ≡ x .active
+      go (holds s) a = rw s
+      go (fails s) (holds a) = not-both (x .session) (active-sound (n .state .clock) x sound a .session) s
+      go (fails s) (fails a) = rw (s, a)
+
+  opened-member : member-of (opened x) ≡ member-of x
+  opened-member = go (outcome (x .session)) opened-active
+    where
+      go : Outcome (x .session) → opened x .active ≡ x .active → member-of (opened x) ≡ member-of x
+      go (holds s) a = rw (s, s)
+      go (fails s) a = let idle : false ≡ x .active = rw s at a in rw (s, ← idle)
+
+  opened-sound : user-sound (n .state .clock) (opened x) ≡ true
+  opened-sound = go (outcome (x .session))
+    where
+      go : Outcome (x .session) → user-sound (n .state .clock) (opened x) ≡ true
+      go (holds s) = rw s sound
+      go (fails s) = rw s
+
+  opened-quiet : is-due (n .state .clock) (opened x) ≡ false
+  opened-quiet = go (outcome (x .session))
+    where
+      go : Outcome (x .session) → is-due (n .state .clock) (opened x) ≡ false
+      go (holds s) = rw s (quiet-user n (p .rested) u)
+      go (fails s) = rw s
+
+  abbrev m : Nucleus
+  m = change-user u opened n
+
+  passed-session : Passed (r .capacity) lent m j
+  passed-session = passed-like (opened x) opened-sound opened-active opened-member opened-quiet
+
+  opened-own : user-of m u ≡ opened x
+  opened-own = user-own (n .state .users) (k .people .user-count) u least most (opened x)
+
+  ready : x .overdue ≡ false → (one-of (Op ∷ Cl ∷ []) (r .command) ≡ true → x .active ≡ false) → Ready r m
+  ready unmarked idle = record {
+    least = least;
+    most = most;
+    session = rw opened-own (session-open (x .session) refl);
+    unmarked = rw opened-own (mark-clear (x .session) refl);
+    idle = λ e. rw opened-own (opened-active ∙ idle e);
+    option = option;
+  }
+    where
+      session-open : (b : Bool) → x .session ≡ b → opened x .session ≡ true
+      session-open true s = rw (s, s)
+      session-open false s = rw s
+
+      mark-clear : (b : Bool) → x .session ≡ b → opened x .overdue ≡ false
+      mark-clear true s = rw s unmarked
+      mark-clear false s = rw s
+
+  pub served : Served lent r j (r .command) (serve r n)
+  unfolding serve overdue-mark ends-active
+  served = go (outcome (x .overdue)) (outcome (one-of (Op ∷ Cl ∷ []) (r .command) && x .active))
+    where
+      go : Outcome (x .overdue) → Outcome (one-of (Op ∷ Cl ∷ []) (r .command) && x .active) → Served lent r j (r .command) (serve r n)
+      go (holds o) e = rw o (served-marked o)
+      go (fails o) (holds e) = rw (o, e) (served-out (and-left (one-of (Op ∷ Cl ∷ []) (r .command)) (x .active) e))
+      go (fails o) (fails e) = rw (o, e) (performed lent m j r passed-session (ready o (λ ends. rw ends at e)))
+
+-- ---- a call
+abbrev pub not-of-list : ℕ → Bool
+not-of-list response = any (eqb response) (10 ∷ 11 ∷ 12 ∷ [])
+
+pub record Stepped (capacity : ℕ) (lent : List ℕ) (call : Call) (format buffer : List ℕ) (j : Journal) (x : Result) : Type 0 where
+  pub passed : Passed capacity lent (x .nucleus) (fed call format buffer (number (x .answer .response)) (x .answer .isn) j)
+  -- no call of a list answers 10, 11 or 12
+  pub of-list : not-of-list (number (x .answer .response)) ≡ false
+
+first-three : (a b c more : Bool) → (a || (b || (c || more))) ≡ false → (a || (b || (c || false))) ≡ false
+first-three true b c more h = h
+first-three false true c more h = h
+first-three false false true more h = h
+first-three false false false more h = refl
+
+early-of-list : (response : ℕ) → is-early response ≡ false → not-of-list response ≡ false
+early-of-list response h = first-three (eqb response 10) (eqb response 11) (eqb response 12) _ h
+
+module _ (capacity : ℕ) (lent : List ℕ) (n : Nucleus) (j : Journal) (p : Passed capacity lent n j) (call : Call) (format buffer : List ℕ) where
+  -- 22 and 72: all is as it was
+  refused-first : (c : Response) → is-early (number c) ≡ true → not-of-list (number c) ≡ false → Stepped capacity lent call format buffer j (refusal buffer n c)
+  unfolding fed
+  refused-first c early of = record { passed = rw early p; of-list = of }
+
+  -- past the clock
+  served-known : (c : Command) → command-of (call .command) ≡ some c → has-option c (call .option) ≡ true → within 1 max-users (call .user) ≡ true
+      → Stepped capacity lent call format buffer j (serve (request capacity c call format buffer) (nucleus.clocked (call .clock) n))
+  unfolding fed
+  served-known c known option user =
+      let r = request capacity c call format buffer in
+      let s = served lent (nucleus.clocked (call .clock) n) (journal.clocked (call .clock) j) r (passed-clock capacity lent (call .clock) n j (p .kept))
+      (within-least 1 max-users (call .user) user) (within-most 1 max-users (call .user) user) option
+      in
+      record { passed = rw (s .not-early, known) (s .passed); of-list = early-of-list (number (serve r (nucleus.clocked (call .clock) n) .answer .response)) (s .not-early) }
+
+  pub stepped : Stepped capacity lent call format buffer j (step capacity call format buffer n)
+  unfolding step rows-first
+  stepped =
+      rw (p .kept .sized .valid, long-kept capacity lent n j (p .kept), well-made-kept capacity lent n j (p .kept))
+      (go (command-of (call .command)) refl)
+    where
+      after-first : Option Command → Result
+      after-first x =
+          unless (first-cause (row CommandUnknown (not (understood x (call .option))) ∷ row UserUnknown (not (within 1 max-users (call .user))) ∷ [])) (refusal buffer n)
+          (serve-command x capacity call format buffer n)
+
+      go : (x : Option Command) → command-of (call .command) ≡ x → Stepped capacity lent call format buffer j (after-first x)
+      go none e = refused-first CommandUnknown refl refl
+      go (some c) e = go-on (outcome (has-option c (call .option))) (outcome (within 1 max-users (call .user)))
+        where
+          go-on : Outcome (has-option c (call .option)) → Outcome (within 1 max-users (call .user)) → Stepped capacity lent call format buffer j (after-first (some c))
+          go-on (fails o) u = rw o (refused-first CommandUnknown refl refl)
+          go-on (holds o) (fails u) = rw (o, u) (refused-first UserUnknown refl refl)
+          go-on (holds o) (holds u) = rw (o, u) (served-known c e o u)
