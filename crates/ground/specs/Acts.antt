@@ -12,9 +12,11 @@ use Rattle.lists.specs.Folds.{any}
 use Rattle.definition.specs.Shape.{DefinitionShape}
 use Rattle.definition.specs.declared.Definition.{Definition}
 use Rattle.layout.specs.Layout.{image-length}
-use Rattle.queue.specs.Queue.{is-of, entries, seek, holder, append}
-use Rattle.queue.specs.Laws.{Shape, length-entries, entries-append, free-none}
-use Rattle.queue.specs.declared.Entry.{Entry}
+use Rattle.entries.specs.Entries.{is-of, entries}
+use Rattle.queue.specs.Queue.{seek, holder, append}
+use Rattle.entries.specs.Laws.{Shape, length-entries}
+use Rattle.queue.specs.Laws.{entries-append, free-none}
+use Rattle.entries.specs.declared.Entry.{Entry}
 use Rattle.queue.specs.declared.Lookup.the-variants.{Held, Free}
 use Rattle.images.specs.Images.{remove-queue, remove-images, remove-count}
 use Rattle.images.specs.declared.Removal.{Removal}

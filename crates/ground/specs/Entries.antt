@@ -15,9 +15,11 @@ use Rattle.lists.specs.Folds.{Each}
 use Rattle.lists.specs.Sift.{sift}
 use Rattle.definition.specs.declared.Definition.{Definition}
 use Rattle.layout.specs.Layout.{image-length}
-use Rattle.queue.specs.Queue.{entries, holder, append}
-use Rattle.queue.specs.Laws.{Shape, is-held, entries-append}
-use Rattle.queue.specs.declared.Entry.{Entry}
+use Rattle.entries.specs.Entries.{entries}
+use Rattle.queue.specs.Queue.{holder, append}
+use Rattle.entries.specs.Laws.{Shape}
+use Rattle.queue.specs.Laws.{is-held, entries-append}
+use Rattle.entries.specs.declared.Entry.{Entry}
 use Rattle.queue.specs.declared.Lookup.the-variants.{Held, Free}
 use Rattle.images.specs.Lists.{sift as sift-holds}
 use Rattle.images.specs.Images.{stays, fits, remove-queue, remove-images, remove-count, hold-of, with-images}

@@ -13,7 +13,7 @@ use Rattle.definition.specs.declared.Format.the-variants.{Alphanumeric}
 use Rattle.definition.specs.declared.FieldOption.the-variants.{Plain, Unique}
 use Rattle.layout.specs.Layout.{record-length, file-offset, store-size, image-length, place}
 use Rattle.store.specs.Store.{slot-fits, has-record, get as get-record, put-record, empty, file-part, with-part}
-use Rattle.queue.specs.Queue.{pack-of, unpack-of, entries}
+use Rattle.entries.specs.Entries.{pack-of, unpack-of, entries}
 use Rattle.hold.specs.Hold.{put-back-in, put-back, restore}
 use Rattle.ground.specs.Keys.{key, key-file, key-isn, file-of, keys}
 use Rattle.ground.specs.Store.{whole, get, put}

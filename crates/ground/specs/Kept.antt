@@ -9,15 +9,18 @@ use lib.Dec.{eqb}
 use lib.ListN.{length, getD, set}
 use lib.Seq.{sets, length-sets, map-set-same}
 use borrow.Author.Tests.{not-false}
-use Rattle.lists.specs.Folds.{all, distinct}
-use Rattle.lists.specs.Sift.{all-keeps, all-append}
+use Rattle.lists.specs.Folds.{all, distinct, all-append}
+use Rattle.lists.specs.Sift.{all-keeps}
 use Rattle.definition.specs.Shape.{DefinitionShape}
 use Rattle.definition.specs.declared.Definition.{Definition}
 use Rattle.layout.specs.Layout.{store-size, image-length}
-use Rattle.queue.specs.Queue.{alike, mark, entries, holder, repeated, append, change}
-use Rattle.queue.specs.Lists.{distinct-last}
-use Rattle.queue.specs.Laws.{Shape, no-entry, free-none, entries-append, length-append-entry, entries-change, length-change}
-use Rattle.queue.specs.declared.Entry.{Entry}
+use Rattle.repeats.specs.Repeats.{alike, repeated}
+use Rattle.queue.specs.Queue.{mark, holder, append, change}
+use Rattle.entries.specs.Entries.{entries}
+use Rattle.lists.specs.Distinct.{distinct-last}
+use Rattle.entries.specs.Laws.{Shape, no-entry}
+use Rattle.queue.specs.Laws.{free-none, entries-append, length-append-entry, entries-change, length-change}
+use Rattle.entries.specs.declared.Entry.{Entry}
 use Rattle.queue.specs.declared.Lookup.the-variants.{Free}
 use Rattle.images.specs.Images.{stays, remove-queue, remove-images, remove-count}
 use Rattle.images.specs.Laws.{remove-count-most, length-remove-queue, length-remove-images, entries-remove}
@@ -61,7 +64,7 @@ module _ (d : Definition) (capacity : ℕ) (store words images : List ℕ) (coun
         queue-room = rw (length-append-entry words count e) (m .queue-room);
         image-room = m .image-room;
         most = omega arith;
-        each-known = rw es (all-append (entry-known d) (entries words count) (e ∷ []) (m .each-known) (rw known-e));
+        each-known = rw (es, all-append (entry-known d) (entries words count) (e ∷ []), m .each-known, known-e);
         single = rw (es, distinct-last alike (entries words count) e, not-false (distinct alike (entries words count)) (m .single), free-none (e .file) (e .isn) (entries words count) free);
       }
 

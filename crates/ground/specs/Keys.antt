@@ -10,8 +10,8 @@ use lib.ListN.{length, getD}
 use lib.Seq.{getD-take, length-take-le}
 use borrow.Author.Tests.{eqb-true, eq-eqb}
 use Rattle.lists.specs.Tests.{within, within-inside, within-least, within-most, not-both, and-left, and-right, eqb-self}
-use Rattle.lists.specs.Folds.{any, all, Each, each-index}
-use Rattle.lists.specs.Sift.{elem-all, all-append}
+use Rattle.lists.specs.Folds.{any, all, Each, each-index, all-append}
+use Rattle.lists.specs.Sift.{elem-all}
 use Rattle.definition.specs.Table.{beyond, file-at, file-count, files-of}
 use Rattle.definition.specs.Shape.{DefinitionShape}
 use Rattle.definition.specs.declared.File.{File}
@@ -154,7 +154,7 @@ module _ (d : Definition) (s : DefinitionShape d) where
 
     all-known : (fs : List File) → Each (λ f. all (known d) (map (key (f .number)) (from-to 1 (f .«max_isn»))) ≡ true) fs → all (known d) (keys-of fs) ≡ true
     all-known [] h = refl
-    all-known (f ∷ fs) h = all-append (known d) (map (key (f .number)) (from-to 1 (f .«max_isn»))) (keys-of fs) (h .0) (all-known fs (h .1))
+    all-known (f ∷ fs) h = rw (all-append (known d) (map (key (f .number)) (from-to 1 (f .«max_isn»))) (keys-of fs), h .0) (all-known fs (h .1))
 
     has-key : (k : ℕ) (fs : List File) (i : ℕ) → i < length fs
         → any (eqb k) (map (key (getD fs i beyond .number)) (from-to 1 (getD fs i beyond .«max_isn»))) ≡ true → any (eqb k) (keys-of fs) ≡ true

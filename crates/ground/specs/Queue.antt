@@ -9,8 +9,9 @@ use lib.ListN.{length, take}
 use Rattle.lists.specs.Folds.{all}
 use Rattle.definition.specs.declared.Definition.{Definition}
 use Rattle.layout.specs.Layout.{record-length, store-size, image-length}
-use Rattle.queue.specs.Queue.{entries, repeated}
-use Rattle.queue.specs.declared.Entry.{Entry}
+use Rattle.entries.specs.Entries.{entries}
+use Rattle.repeats.specs.Repeats.{repeated}
+use Rattle.entries.specs.declared.Entry.{Entry}
 use Rattle.images.specs.Images.{Hold, with-images}
 use Rattle.transactions.specs.Slots.{Slot}
 use Rattle.transactions.specs.Machine.{Entry as MachineEntry}

@@ -15,9 +15,12 @@ use Rattle.lists.specs.Folds.{any, distinct, Each, each-index}
 use Rattle.lists.specs.Sift.{sift-none, any-sift}
 use Rattle.definition.specs.declared.Definition.{Definition}
 use Rattle.layout.specs.Layout.{image-length}
-use Rattle.queue.specs.Queue.{unpack-of, is-of, alike, entries, holder, repeated}
-use Rattle.queue.specs.Laws.{no-entry, unpack-shape, length-entries, entry-at, is-held, held-any, Found, held-found}
-use Rattle.queue.specs.declared.Entry.{Entry}
+use Rattle.entries.specs.Entries.{unpack-of, is-of, entries}
+use Rattle.repeats.specs.Repeats.{alike, repeated}
+use Rattle.queue.specs.Queue.{holder}
+use Rattle.entries.specs.Laws.{no-entry, unpack-shape, length-entries, entry-at}
+use Rattle.queue.specs.Laws.{is-held, held-any, Found, held-found}
+use Rattle.entries.specs.declared.Entry.{Entry}
 use Rattle.queue.specs.declared.Lookup.{Lookup}
 use Rattle.queue.specs.declared.Lookup.the-variants.{Held, Free}
 use Rattle.images.specs.Images.{hold-of, with-images}

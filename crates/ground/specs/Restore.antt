@@ -17,8 +17,8 @@ use Rattle.layout.specs.Layout.{record-length, store-size, image-length, place}
 use Rattle.layout.specs.declared.Found.{Found}
 use Rattle.layout.specs.declared.Found.the-variants.{At, Nowhere}
 use Rattle.store.specs.Store.{put-record, empty, file-part, with-part}
-use Rattle.queue.specs.Queue.{entries}
-use Rattle.queue.specs.declared.Entry.{Entry}
+use Rattle.entries.specs.Entries.{entries}
+use Rattle.entries.specs.declared.Entry.{Entry}
 use Rattle.hold.specs.Hold.{put-back-in, put-back-at, put-back, put-back-of, restored, restore}
 use Rattle.transactions.specs.Slots.{Slot}
 use Rattle.transactions.specs.Machine.{restore as machine-restore}

@@ -20,7 +20,7 @@ use Rattle.definition.specs.declared.Definition.{Definition}
 use Rattle.layout.specs.Layout.{field-offset, record-length, store-size, image-length}
 use Rattle.validity.specs.Validity.{valid}
 use Rattle.validity.specs.Laws.{valid-at}
-use Rattle.queue.specs.Queue.{entries}
+use Rattle.entries.specs.Entries.{entries}
 use Rattle.store.specs.Lists.{any-agree, any-true}
 use Rattle.store.specs.Store.{get as get-record, field-value, elsewhere, file-part}
 use Rattle.store.specs.Laws.{some-has, has-fits, fits-least, fits-most}

@@ -17,8 +17,8 @@ use Rattle.definition.specs.declared.File.{File}
 use Rattle.definition.specs.declared.Definition.{Definition}
 use Rattle.layout.specs.Layout.{field-length, field-offset, record-length, image-length}
 use Rattle.layout.specs.Laws.{field-within}
-use Rattle.queue.specs.Queue.{entries}
-use Rattle.queue.specs.declared.Entry.{Entry}
+use Rattle.entries.specs.Entries.{entries}
+use Rattle.entries.specs.declared.Entry.{Entry}
 use Rattle.store.specs.Lists.{numbers, each-number, piece-piece, length-piece}
 use Rattle.store.specs.Store.{field-value}
 use Rattle.images.specs.Images.{has-at, image-has}

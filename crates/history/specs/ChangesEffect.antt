@@ -14,9 +14,11 @@ use Rattle.definition.specs.declared.Definition.{Definition}
 use Rattle.layout.specs.Layout.{store-size, place}
 use Rattle.layout.specs.declared.Found.the-variants as found-at
 use Rattle.store.specs.Store.{record-of}
-use Rattle.queue.specs.Queue.{mark as mark-entry, entries, change}
-use Rattle.queue.specs.Laws.{no-entry, entries-change}
-use Rattle.queue.specs.declared.Entry.{Entry}
+use Rattle.queue.specs.Queue.{mark as mark-entry, change}
+use Rattle.entries.specs.Entries.{entries}
+use Rattle.entries.specs.Laws.{no-entry}
+use Rattle.queue.specs.Laws.{entries-change}
+use Rattle.entries.specs.declared.Entry.{Entry}
 use Rattle.queue.specs.declared.Lookup.the-variants.{Held}
 use Rattle.hold.specs.Hold.{settled, first-change-queue}
 use Rattle.transactions.specs.Slots.{Slot}

@@ -10,8 +10,7 @@ use lib.Dec.{ltb}
 use lib.ListN.{length}
 use borrow.Author.Tests.{lt-ltb}
 use Rattle.lists.specs.Tests.{within-inside}
-use Rattle.lists.specs.Folds.{all}
-use Rattle.lists.specs.Sift.{all-append}
+use Rattle.lists.specs.Folds.{all, all-append}
 use Rattle.definition.specs.Table.{files-of}
 use Rattle.definition.specs.Shape.{DefinitionShape}
 use Rattle.definition.specs.declared.Definition.{Definition}
@@ -131,8 +130,8 @@ module _ (lent : List ℕ) (n : Nucleus) (j : Journal) (r : Request) (p : Passed
       same-clock = before .told .same-clock;
       same-members = before .told .same-members;
       changes-sound =
-          all-append (change-sound us) (begun u j .changes) _ (before .told .changes-sound)
-          (rw (lt-ltb isn isn-bound (t .small), held-active capacity lent n j k r isn s holdable));
+          all-append (change-sound us) (begun u j .changes) _
+          ∙ rw (before .told .changes-sound, lt-ltb isn isn-bound (t .small), held-active capacity lent n j k r isn s holdable);
     }
 
     pub kept-changed : Kept capacity lent m logged-now

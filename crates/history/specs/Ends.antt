@@ -18,7 +18,7 @@ use Rattle.images.specs.Images.{stays}
 use Rattle.images.specs.Laws.{entries-remove}
 use Rattle.images.specs.declared.Removal.{Removal}
 use Rattle.images.specs.declared.Removal.the-variants.{All}
-use Rattle.queue.specs.declared.Entry.{Entry}
+use Rattle.entries.specs.declared.Entry.{Entry}
 use Rattle.transactions.specs.Machine.{Laws, Machine, end, back-out, allowed}
 use Rattle.transactions.specs.Theorems.{Invariant, kept-act}
 use Rattle.ground.specs.Lists.{sift-is}

@@ -9,8 +9,7 @@ use lib.Dec.{eqb}
 use lib.ListN.{length}
 use borrow.Author.Tests.{eqb-true, not-false}
 use Rattle.lists.specs.Tests.{Outcome, holds, fails, outcome, not-both, or-left, or-right, within-most, eqb-self}
-use Rattle.lists.specs.Folds.{any, all, distinct}
-use Rattle.lists.specs.Sift.{all-append}
+use Rattle.lists.specs.Folds.{any, all, distinct, all-append}
 use Rattle.definition.specs.Table.{file-at}
 use Rattle.definition.specs.Shape.{DefinitionShape, file-shape-at}
 use Rattle.definition.specs.declared.Definition.{Definition}
@@ -18,10 +17,13 @@ use Rattle.layout.specs.Layout.{place}
 use Rattle.layout.specs.Laws.{place-found}
 use Rattle.layout.specs.declared.Found.{Found}
 use Rattle.layout.specs.declared.Found.the-variants as found-at
-use Rattle.queue.specs.Queue.{is-of, alike, seek, holder, repeated}
-use Rattle.queue.specs.Lists.{distinct-last}
-use Rattle.queue.specs.Laws.{Shape, length-entries, free-none, entries-append, length-append-entry}
-use Rattle.queue.specs.declared.Entry.{Entry}
+use Rattle.entries.specs.Entries.{is-of}
+use Rattle.repeats.specs.Repeats.{alike, repeated}
+use Rattle.queue.specs.Queue.{seek, holder}
+use Rattle.lists.specs.Distinct.{distinct-last}
+use Rattle.entries.specs.Laws.{Shape, length-entries}
+use Rattle.queue.specs.Laws.{free-none, entries-append, length-append-entry}
+use Rattle.entries.specs.declared.Entry.{Entry}
 use Rattle.queue.specs.declared.Lookup.{Lookup}
 use Rattle.queue.specs.declared.Lookup.the-variants.{Held, Free}
 use Rattle.transactions.specs.Machine as machine
@@ -189,7 +191,7 @@ module _ (n : Nucleus) (capacity : ℕ) (made : MadeIn capacity n) where
         queue-room = omega (arith, made .queue-room, length-append-entry (n .queue) (n .state .count) new);
         image-room = made .image-room;
         most = omega (arith, room none);
-        each-known = rw entries-anew (all-append (entry-known (definition-of n)) (entries-of n) (new ∷ []) (made .each-known) (rw inside));
+        each-known = rw (entries-anew, all-append (entry-known (definition-of n)) (entries-of n) (new ∷ []), made .each-known, inside);
         single = rw entries-anew single-anew;
       }
 
@@ -228,7 +230,7 @@ module _ (n : Nucleus) (capacity : ℕ) (made : MadeIn capacity n) where
       where
         go : (b : Bool) → all p (cond b (entries-of n) (entries-of n ++ new ∷ [])) ≡ true
         go true = h
-        go false = all-append p (entries-of n) (new ∷ []) h (rw t)
+        go false = rw (all-append p (entries-of n) (new ∷ []), h, t)
 
     -- the entry that is found then is his
     pub his-held : held-by u (holder-of r (held r isn n) isn) ≡ true

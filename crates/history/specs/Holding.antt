@@ -11,8 +11,9 @@ use Rattle.lists.specs.Tests.{within, Outcome, holds, fails, outcome, within-in
 use Rattle.lists.specs.Folds.{all, all-at}
 use Rattle.definition.specs.declared.Definition.{Definition}
 use Rattle.queue.specs.Queue.{holder}
-use Rattle.queue.specs.Laws.{no-entry, Found, held-found}
-use Rattle.queue.specs.declared.Entry.{Entry}
+use Rattle.entries.specs.Laws.{no-entry}
+use Rattle.queue.specs.Laws.{Found, held-found}
+use Rattle.entries.specs.declared.Entry.{Entry}
 use Rattle.queue.specs.declared.Lookup.{Lookup}
 use Rattle.transactions.specs.Machine.{hold, with-hold, act, log}
 use Rattle.transactions.specs.Theorems.{Invariant, kept-act}

@@ -14,7 +14,7 @@ use Rattle.lists.specs.Folds.{all}
 use Rattle.definition.specs.Table.{beyond, file-at, file-count, files-of}
 use Rattle.ground.specs.Keys.{isn-bound}
 use Rattle.definition.specs.declared.File.{File}
-use Rattle.queue.specs.declared.Entry.{Entry}
+use Rattle.entries.specs.declared.Entry.{Entry}
 use Rattle.nucleus.specs.Nucleus.{Nucleus, max-users, user-of, with-user, with-data, with-mark, with-clock, with-state, entries-of}
 use Rattle.nucleus.specs.WellMade.{marks-made, data-made}
 use Rattle.nucleus.specs.declared.User.{User}

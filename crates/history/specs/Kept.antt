@@ -13,7 +13,7 @@ use Rattle.definition.specs.Table.{max-files, files-of}
 use Rattle.definition.specs.Shape.{DefinitionShape}
 use Rattle.definition.specs.declared.Definition.{Definition}
 use Rattle.validity.specs.Validity as validity
-use Rattle.queue.specs.declared.Entry.{Entry}
+use Rattle.entries.specs.declared.Entry.{Entry}
 use Rattle.transactions.specs.Machine.{Ground, Machine}
 use Rattle.transactions.specs.Theorems.{Invariant}
 use Rattle.ground.specs.Keys.{isn-bound}

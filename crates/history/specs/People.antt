@@ -12,8 +12,8 @@ use lib.Seq.{getD-set-same, getD-set-other, set-getD, set-set}
 use borrow.Author.Tests.{eqb-true, eqb-false, leb-true, le-leb, not-true, ne-eqb}
 use Rattle.lists.specs.Tests.{or-true, cond, within, within-inside, within-least, within-most, Outcome, holds, fails, outcome, and-left, and-right, not-both, eqb-self}
 use Rattle.lists.specs.Folds.{all}
-use Rattle.queue.specs.Lists.{map-set}
-use Rattle.queue.specs.declared.Entry.{Entry}
+use Rattle.lists.specs.Maps.{map-set}
+use Rattle.entries.specs.declared.Entry.{Entry}
 use Rattle.nucleus.specs.Users.{fresh-user}
 use Rattle.nucleus.specs.Nucleus.{max-users}
 use Rattle.nucleus.specs.declared.User.{User}

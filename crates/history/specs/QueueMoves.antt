@@ -11,8 +11,9 @@ use borrow.Author.Tests.{eqb-true, not-true, not-false}
 use Rattle.lists.specs.Tests.{cond, not-both, and-left, and-right, or-left, or-right}
 use Rattle.lists.specs.Folds.{any, all, distinct}
 use Rattle.lists.specs.Sift.{keep, sift, all-keeps}
-use Rattle.queue.specs.Queue.{alike, holder, repeated}
-use Rattle.queue.specs.declared.Entry.{Entry}
+use Rattle.repeats.specs.Repeats.{alike, repeated}
+use Rattle.queue.specs.Queue.{holder}
+use Rattle.entries.specs.declared.Entry.{Entry}
 use Rattle.queue.specs.declared.Lookup.{Lookup}
 use Rattle.queue.specs.declared.Lookup.the-variants.{Held, Free}
 use Rattle.images.specs.Lists as images

@@ -20,7 +20,8 @@ use Rattle.reading.specs.Laws.{read-valid}
 use Rattle.reading.specs.declared.End.{End}
 use Rattle.reading.specs.declared.End.the-variants.{At, Broken}
 use Rattle.store.specs.Lists.{numbers}
-use Rattle.queue.specs.Queue.{entries, repeated}
+use Rattle.entries.specs.Entries.{entries}
+use Rattle.repeats.specs.Repeats.{repeated}
 use Rattle.transactions.specs.Machine.{begin}
 use Rattle.transactions.specs.Theorems.{Invariant, kept-begin}
 use Rattle.ground.specs.Store.{fresh-from, fresh-store}

@@ -14,8 +14,8 @@ use Rattle.definition.specs.declared.Definition.{Definition}
 use Rattle.layout.specs.Layout.{store-size, image-length, place}
 use Rattle.layout.specs.declared.Found.{Found}
 use Rattle.layout.specs.declared.Found.the-variants.{At, Nowhere}
-use Rattle.queue.specs.Laws.{no-entry}
-use Rattle.queue.specs.declared.Entry.{Entry}
+use Rattle.entries.specs.Laws.{no-entry}
+use Rattle.entries.specs.declared.Entry.{Entry}
 use Rattle.ground.specs.Keys.{isn-bound, key, file-of-key, isn-of-key, known, known-at}
 use Rattle.ground.specs.Queue.{entry-known}
 use Rattle.ground.specs.Reading.{entries-small}

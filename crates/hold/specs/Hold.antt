@@ -9,12 +9,13 @@ use Rattle.lists.specs.Tests.{cond}
 use Rattle.definition.specs.Table.{file-at}
 use Rattle.layout.specs.Layout.{record-length, store-size, place}
 use Rattle.store.specs.Store.{put-record, empty, file-part, with-part}
-use Rattle.queue.specs.Queue.{unpack-of, entries, change}
+use Rattle.entries.specs.Entries.{unpack-of, entries}
+use Rattle.queue.specs.Queue.{change}
 use Rattle.definition.specs.declared.File.{File}
 use Rattle.definition.specs.declared.Definition.{Definition}
 use Rattle.layout.specs.declared.Found.{Found}
 use Rattle.layout.specs.declared.Found.the-variants.{At, Nowhere}
-use Rattle.queue.specs.declared.Entry.{Entry}
+use Rattle.entries.specs.declared.Entry.{Entry}
 
 -- ---- "Only the first change of an entry keeps an image": the record's bytes at the front of the image of the entry at a place
 unfoldable pub keep-image : List ℕ → ℕ → ℕ → List ℕ → List ℕ

@@ -9,9 +9,9 @@ ghost use Rattle.images.specs.declared.Removal.the-variants.{All};
 ghost use Rattle.hold.specs.Hold.{keep-image, first-change-queue, first-change-images, put-back-in, put-back, put-back-of, restore};
 use definition::Definition;
 use definition::File;
+use entries::Entry;
 use images::Removal;
 use layout::Found;
-use queue::Entry;
 
 fn least(a: usize, b: usize) -> usize
     ensures { λ r. ⌜ r ≡ min a b ⌝ }
@@ -81,7 +81,7 @@ pub fn first_change(
     if queue.len() <= at {
         return;
     }
-    let e = queue::unpack(queue[at]);
+    let e = entries::unpack(queue[at]);
     if e.changed {
         return;
     }
@@ -148,7 +148,7 @@ pub fn restore(
     let n = least(count, queue.len());
     let mut i = 0;
     while i < n {
-        let e = queue::unpack(queue[i]);
+        let e = entries::unpack(queue[i]);
         let start = i * width;
         put_back_of(d, user, e, &images[start..start + width], store);
         i += 1;

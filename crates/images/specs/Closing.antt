@@ -10,7 +10,7 @@ use lib.ListN.{length, take, drop, length-append, length-take, length-drop}
 use lib.Seq.{paste, take-at, drop-at, drop-drop}
 use Rattle.lists.specs.Tests.{cond}
 use Rattle.lists.specs.Folds.{total}
-use Rattle.queue.specs.Queue.{bit}
+use Rattle.entries.specs.Entries.{bit}
 use Rattle.images.specs.Lists.{rest-alike}
 
 -- how many flags are set

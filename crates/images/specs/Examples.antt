@@ -5,11 +5,11 @@ use mathlib.Core.Bool.{Bool, true, false, _&&_}
 use mathlib.Core.List.{List, [], _∷_, map}
 use lib.Dec.{eqb}
 use Rattle.lists.specs.Folds.{all}
-use Rattle.queue.specs.Queue.{pack-of, unpack-of, entries}
+use Rattle.entries.specs.Entries.{pack-of, unpack-of, entries}
 use Rattle.images.specs.Lists.{same}
 use Rattle.images.specs.Closing.{closed}
 use Rattle.images.specs.Images.{remove-queue, remove-images, remove-count, image-has}
-use Rattle.queue.specs.declared.Entry.{Entry}
+use Rattle.entries.specs.declared.Entry.{Entry}
 use Rattle.images.specs.declared.Removal.{Removal}
 use Rattle.images.specs.declared.Removal.the-variants.{One, Unchanged, All}
 

@@ -6,10 +6,10 @@ use lib.Dec.{eqb, leb}
 use lib.ListN.{length, take, drop}
 use Rattle.lists.specs.Tests.{cond}
 use Rattle.lists.specs.Folds.{any}
-use Rattle.queue.specs.Queue.{is-of, entries}
+use Rattle.entries.specs.Entries.{is-of, entries}
 use Rattle.images.specs.Lists.{same}
 use Rattle.images.specs.Closing.{closed, set-count}
-use Rattle.queue.specs.declared.Entry.{Entry}
+use Rattle.entries.specs.declared.Entry.{Entry}
 use Rattle.images.specs.declared.Removal.{Removal}
 use Rattle.images.specs.declared.Removal.the-variants.{One, Unchanged, All}
 

@@ -12,12 +12,12 @@ use lib.ListN.{length, take, drop, getD, set, length-map, length-take, length-dr
 use lib.Seq.{paste, drop-drop, take-all, take-at, drop-at}
 use borrow.Author.Tests.{leb-true}
 use Rattle.lists.specs.Tests.{cond, Outcome, holds, fails, outcome, and-left, and-right}
-use Rattle.queue.specs.Queue.{unpack-of, entries}
-use Rattle.queue.specs.Laws.{length-entries}
+use Rattle.entries.specs.Entries.{unpack-of, entries}
+use Rattle.entries.specs.Laws.{length-entries}
 use Rattle.images.specs.Lists.{sift, paste-behind}
 use Rattle.images.specs.Closing.{set-count, set-count-most, picked, closed-is, closed-front, length-closed}
 use Rattle.images.specs.Images.{stays, staying, fits, remove-queue, remove-images, remove-count, hold-of, with-images}
-use Rattle.queue.specs.declared.Entry.{Entry}
+use Rattle.entries.specs.declared.Entry.{Entry}
 use Rattle.images.specs.declared.Removal.{Removal}
 
 -- ---- entries with their images

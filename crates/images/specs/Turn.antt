@@ -8,12 +8,12 @@ use mathlib.Core.Bool.{Bool, true, false}
 use mathlib.Core.List.{List, [], _∷_, _++_, map, map-append}
 use lib.ListN.{length, take, drop, getD, set, length-map}
 use lib.Seq.{paste, drop-drop}
-use Rattle.queue.specs.Queue.{bit, unpack-of, entries}
-use Rattle.queue.specs.Laws.{length-entries, entries-last}
+use Rattle.entries.specs.Entries.{bit, unpack-of, entries}
+use Rattle.entries.specs.Laws.{length-entries, entries-last}
 use Rattle.images.specs.Lists.{at-alike, copy-one}
 use Rattle.images.specs.Closing.{set-count, set-count-most, set-count-last, closed, closed-rest, closed-skip, closed-keep, length-closed}
 use Rattle.images.specs.Images.{stays, staying, hold-of, with-images}
-use Rattle.queue.specs.declared.Entry.{Entry}
+use Rattle.entries.specs.declared.Entry.{Entry}
 use Rattle.images.specs.declared.Removal.{Removal}
 
 -- for each of the first i entries, whether it stays

@@ -5,10 +5,10 @@ ghost use Prim.Native.Nat.{_+_, _*_, _≤_, _<_, min};
 ghost use lib.Dec.{leb};
 ghost use lib.ListN.{length, take, drop, getD, set};
 ghost use lib.Seq.{paste};
-ghost use Rattle.queue.specs.Queue.{entries};
+ghost use Rattle.entries.specs.Entries.{entries};
 ghost use Rattle.images.specs.Lists.{same};
 ghost use Rattle.images.specs.Images.{goes, remove-queue, remove-images, remove-count, counts, has-at, hold-of, taken-by, image-has};
-use queue::Entry;
+use entries::Entry;
 
 // Which entries a removal takes.
 pub enum Removal {
@@ -87,7 +87,7 @@ pub fn remove(
     let mut kept: usize = 0;
     let mut i = 0;
     while i < count {
-        let e = queue::unpack(queue[i]);
+        let e = entries::unpack(queue[i]);
         if !goes(which, e) {
             move_entry(queue, images, width, i, kept);
             kept += 1;
@@ -189,7 +189,7 @@ pub fn image_has(
     let n = least(count, queue.len());
     let mut i = 0;
     while i < n {
-        let e = queue::unpack(queue[i]);
+        let e = entries::unpack(queue[i]);
         if taken_by(e, images, i, width, user, file, offset, value) {
             return true;
         }

@@ -1,14 +1,14 @@
 -- Folds over lists: every, some, a sum, a maximum, no two alike; and their laws.
 -- Assumes nothing.
-use mathlib.Core.Path.{_≡_}
-use mathlib.Core.Bool.{Bool, true, false, not, _&&_, _||_}
-use mathlib.Core.List.{List, [], _∷_}
+use mathlib.Core.Path.{_≡_, refl, sym}
+use mathlib.Core.Bool.{Bool, true, false, not, _&&_, _||_, and-assoc, or-assoc}
+use mathlib.Core.List.{List, [], _∷_, _++_}
 use Prim.Native.Nat.{ℕ, zero, suc, _+_, _*_, _≤_, suc-le-suc, _<_, max}
 use native.Mathlib.Nat.{not-suc-le-zero, le-of-suc-le-suc}
 use native.Mathlib.Omega.{arith}
-use lib.ListN.{length, take, getD}
+use lib.ListN.{length, take, getD, set, replicate}
 use borrow.Author.Tests.{not-true}
-use Rattle.lists.specs.Tests.{and-false, and-left, and-right, or-left, or-right}
+use Rattle.lists.specs.Tests.{and-false, and-left, and-right, or-left, or-right, not-both, Outcome, holds, fails, outcome}
 
 module _ {A : Type 0} where
   abbrev pub all : (A → Bool) → List A → Bool
@@ -76,6 +76,45 @@ module _ {A : Type 0} where
   distinct-at like (x ∷ xs) d h (suc i) zero b k = absurd (not-suc-le-zero b)
   distinct-at like (x ∷ xs) d h (suc i) (suc j) b k =
       distinct-at like xs d (and-right (not (any (like x) xs)) (distinct like xs) h) i j (le-of-suc-le-suc b) (le-of-suc-le-suc k)
+
+  -- ---- a list in two parts, of equal elements, with one element changed
+  pub all-append : (p : A → Bool) (xs ys : List A) → all p (xs ++ ys) ≡ (all p xs && all p ys)
+  all-append p [] ys = refl
+  all-append p (x ∷ xs) ys = rw (all-append p xs ys) (sym (and-assoc (p x) (all p xs) (all p ys)))
+
+  pub any-append : (p : A → Bool) (xs ys : List A) → any p (xs ++ ys) ≡ (any p xs || any p ys)
+  any-append p [] ys = refl
+  any-append p (x ∷ xs) ys = rw (any-append p xs ys) (sym (or-assoc (p x) (any p xs) (any p ys)))
+
+  pub all-replicate : (p : A → Bool) (n : ℕ) (x : A) → p x ≡ true → all p (replicate n x) ≡ true
+  all-replicate p zero x h = refl
+  all-replicate p (suc n) x h = rw h (all-replicate p n x h)
+
+  pub each-replicate : (P : A → Type 0) (n : ℕ) (x : A) → P x → Each P (replicate n x)
+  each-replicate P zero x h = tt
+  each-replicate P (suc n) x h = (h, each-replicate P n x h)
+
+  pub each-set : (P : A → Type 0) (l : List A) (i : ℕ) (x : A) → Each P l → P x → Each P (set l i x)
+  each-set P [] i x h k = tt
+  each-set P (y ∷ ys) zero x h k = (k, h .1)
+  each-set P (y ∷ ys) (suc i) x h k = (h .0, each-set P ys i x (h .1) k)
+
+  -- ---- some element
+  pub any-agree : (p q : A → Bool) → ((x : A) → p x ≡ q x) → (l : List A) → any p l ≡ any q l
+  any-agree p q h [] = refl
+  any-agree p q h (x ∷ xs) = rw (h x, any-agree p q h xs)
+
+  pub any-none : (p : A → Bool) → ((x : A) → p x ≡ false) → (l : List A) → any p l ≡ false
+  any-none p h [] = refl
+  any-none p h (x ∷ xs) = rw (h x) (any-none p h xs)
+
+  pub any-true : (p : A → Bool) (l : List A) → any p l ≡ true → (x : A) × (p x ≡ true)
+  any-true p [] h = not-both false h refl
+  any-true p (x ∷ xs) h = go (outcome (p x)) (any-true p xs)
+    where
+      go : Outcome (p x) → (any p xs ≡ true → (y : A) × (p y ≡ true)) → (y : A) × (p y ≡ true)
+      go (holds t) later = (x, t)
+      go (fails t) later = later (rw t at h)
 
   -- ---- sums
   -- n numbers that are at most m

@@ -1,5 +1,9 @@
 pub mod Tests
 pub mod Folds
+pub mod Distinct
+pub mod Maps
 pub mod Rest
 pub mod Sift
+pub mod Numbers
 pub mod Parts
+pub mod Pieces

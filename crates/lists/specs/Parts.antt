@@ -1,15 +1,16 @@
 -- Parts of a list: stores of one after another, a part that was lent and came back, blocks of one width.
 -- Assumes nothing.
-use Prim.Native.Nat.{ℕ, suc, _+_, _-_, _*_, _/_, _≤_, _<_, min}
+use Prim.Native.Nat.{ℕ, zero, suc, _+_, _-_, _*_, _/_, _≤_, _<_, min}
 use native.Mathlib.Nat.{le-div-iff-mul-le, div-lt-iff-lt-mul}
 use lib.Dec.{leb}
 use borrow.Author.Tests.{le-leb, lt-leb, leb-true, leb-false}
+use Rattle.lists.specs.Rest.{take-min}
 use Rattle.lists.specs.Tests.{Outcome, holds, fails, outcome}
 use native.Mathlib.Omega.{arith}
 use mathlib.Core.Path.{_≡_, refl, sym, ap, _∙_}
 use mathlib.Core.List.{List, [], _∷_, _++_, append-assoc}
 use lib.ListN.{length, take, drop, set, length-take, length-drop}
-use lib.Seq.{sets, sets-eq, drop-drop, drop-set-lt, drop-set-add, take-set-le, drop-at, take-at, take-all, take-length, length-take-le}
+use lib.Seq.{sets, sets-eq, drop-drop, drop-set-lt, drop-set-add, take-set-le, drop-at, take-at, take-length, length-take-le}
 use mathlib.Core.Logic.{_⊎_, inl, inr}
 
 -- n places from a on, and m places from b on, do not overlap
@@ -75,12 +76,17 @@ quotient count width length h = go (outcome (leb (count * width) length))
     go (holds e) = le-leb count (length / width) (le-div-iff-mul-le {k = width} {x = count} {y = length} h .1 (leb-true (count * width) length e)) ∙ sym e
     go (fails e) = lt-leb count (length / width) (div-lt-iff-lt-mul {k = width} {x = length} {y = count} h .1 (leb-false (count * width) length e)) ∙ sym e
 
--- as many elements as there are, at most
-pub take-least : {A : Type 0} (n : ℕ) (l : List A) → take (min n (length l)) l ≡ take n l
-take-least n l = go (outcome (leb n (length l)))
-  where
-    go : Outcome (leb n (length l)) → take (min n (length l)) l ≡ take n l
-    go (holds e) = let m : min n (length l) ≡ n = omega (arith, leb-true n (length l) e) in rw m
-    go (fails e) =
-        let m : min n (length l) ≡ length l = omega (arith, leb-false n (length l) e) in
-        rw m (take-length l ∙ sym (take-all n l (omega (arith, leb-false n (length l) e))))
+-- ---- a part whose bounds are cut to the list
+module _ {A : Type 0} where
+  pub take-least : (n : ℕ) (l : List A) → take (min n (length l)) l ≡ take n l
+  take-least n l = sym (take-min n (length l) l) ∙ ap (take n) (take-length l)
+
+  pub drop-least : (i : ℕ) (l : List A) → drop (min i (length l)) l ≡ drop i l
+  drop-least zero l = let e : min zero (length l) ≡ zero = omega arith in rw e
+  drop-least (suc i) [] = let e : min (suc i) zero ≡ zero = omega arith in rw e
+  drop-least (suc i) (x ∷ l) = let e : min (suc i) (suc (length l)) ≡ suc (min i (length l)) = omega arith in rw e (drop-least i l)
+
+  pub part-least : (l : List A) (at n : ℕ) (start end : ℕ) → start ≡ min at (length l) → end ≡ start + min n (length l - start) → take (end - start) (drop start l) ≡ take n (drop at l)
+  part-least l at n start end p q =
+      let size : end - start ≡ min n (length (drop start l)) = omega (arith, length-drop start l) in
+      rw size (take-least n (drop start l)) ∙ ap (take n) (ap (λ k. drop k l) p ∙ drop-least at l)

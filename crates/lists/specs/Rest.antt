@@ -1,12 +1,13 @@
 -- What a loop over the first n elements of a list has left at i: `drop i (take n l)`. Its invariant speaks of that; `rest-more` is one turn,
--- `rest-none` the end.
+-- `rest-none` the end. A loop that writes a list from its front has `take i new ++ drop i old`.
 -- Assumes nothing.
-use mathlib.Core.Path.{_≡_, ap}
-use mathlib.Core.List.{List, [], _∷_}
+use mathlib.Core.Path.{_≡_, refl, ap}
+use mathlib.Core.List.{List, [], _∷_, _++_, append-nil}
 use Prim.Native.Nat.{ℕ, zero, suc, _+_, _-_, _≤_, _<_, min}
+use native.Mathlib.Nat.{not-suc-le-zero, le-of-suc-le-suc}
 use native.Mathlib.Numerals.{add-one}
 use native.Mathlib.Omega.{arith}
-use lib.ListN.{length, take, drop, getD, length-take, length-drop, drop-of-length-le}
+use lib.ListN.{length, take, drop, getD, set, replicate, length-take, length-drop, drop-of-length-le}
 use lib.Seq.{drop-cons, getD-take, length-take-le, take-all, take-nil}
 
 module _ {A : Type 0} where
@@ -33,3 +34,30 @@ module _ {A : Type 0} where
   take-min (suc k) (suc n) (x ∷ xs) =
       let e : min (suc k) (suc n) ≡ suc (min k n) = omega arith in
       rw e (ap (λ (t : List A). x ∷ t) (take-min k n xs))
+
+  pub empty : (l : List A) → length l ≤ 0 → l ≡ []
+  empty [] h = refl
+  empty (x ∷ xs) h = absurd (not-suc-le-zero h)
+
+  pub take-replicate : (m n : ℕ) (x : A) → m ≤ n → take m (replicate n x) ≡ replicate m x
+  take-replicate zero n x h = refl
+  take-replicate (suc m) zero x h = absurd (not-suc-le-zero h)
+  take-replicate (suc m) (suc n) x h = ap (λ (l : List A). x ∷ l) (take-replicate m n x (le-of-suc-le-suc h))
+
+  -- ---- one turn of a loop over a whole list
+  pub drop-more : (l : List A) (i : ℕ) (d : A) → i < length l → drop i l ≡ getD l i d ∷ drop (i + 1) l
+  drop-more l i d h = rw (add-one i) (drop-cons l i d h)
+
+  -- ---- one turn of a loop that writes `new` over `old` from the front
+  write-suc : (new old : List A) (i : ℕ) (d : A) → i < length new → i < length old → set (take i new ++ drop i old) i (getD new i d) ≡ take (suc i) new ++ drop (suc i) old
+  write-suc [] old i d h k = absurd (not-suc-le-zero h)
+  write-suc (x ∷ xs) [] i d h k = absurd (not-suc-le-zero k)
+  write-suc (x ∷ xs) (y ∷ ys) zero d h k = refl
+  write-suc (x ∷ xs) (y ∷ ys) (suc i) d h k = ap (λ (l : List A). x ∷ l) (write-suc xs ys i d (le-of-suc-le-suc h) (le-of-suc-le-suc k))
+
+  pub write-more : (new old : List A) (i : ℕ) (d : A) → i < length new → i < length old → set (take i new ++ drop i old) i (getD new i d) ≡ take (i + 1) new ++ drop (i + 1) old
+  write-more new old i d h k = rw (add-one i) (write-suc new old i d h k)
+
+  -- and its end, where both are of one length
+  pub write-all : (new old : List A) (i : ℕ) → length new ≤ i → length old ≤ i → take i new ++ drop i old ≡ new
+  write-all new old i h k = rw (take-all i new h, drop-of-length-le old k) (append-nil new)

@@ -78,10 +78,6 @@ module _ {A : Type 0} where
       go true i = rw (and-left (f x) (all f xs) h) i
       go false i = i
 
-  pub all-append : (f : A → Bool) (xs ys : List A) → all f xs ≡ true → all f ys ≡ true → all f (xs ++ ys) ≡ true
-  all-append f [] ys h i = i
-  all-append f (x ∷ xs) ys h i = rw (and-left (f x) (all f xs) h) (all-append f xs ys (and-right (f x) (all f xs) h) i)
-
   pub all-map : (f : A → Bool) (g : A → A) → ((x : A) → f x ≡ true → f (g x) ≡ true) → (xs : List A) → all f xs ≡ true → all f (map g xs) ≡ true
   all-map f g t [] h = refl
   all-map f g t (x ∷ xs) h = rw (t x (and-left (f x) (all f xs) h)) (all-map f g t xs (and-right (f x) (all f xs) h))

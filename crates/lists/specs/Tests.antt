@@ -1,13 +1,16 @@
 -- Tests: a choice by a test, a number between two, and what `&&`, `||` and `not` say of their parts.
 -- Assumes nothing.
-use mathlib.Core.Path.{_≡_, refl}
+use mathlib.Core.Path.{_≡_, refl, ap}
 use mathlib.Core.Bool.{Bool, true, false, _&&_, _||_}
 -- `cond b x y` is x where b holds, else y
 pub use mathlib.Core.Bool.{cond, and-false, or-true}
-use Prim.Native.Nat.{ℕ, _≤_, _<_}
+use Prim.Native.Nat.{ℕ, suc, _+_, _≤_, _<_}
+use native.Mathlib.Numerals.{add-one}
 use native.Mathlib.Omega.{arith}
 use mathlib.Core.List.{List, [], _∷_}
 use lib.Dec.{T, leb, eqb, eqb-refl}
+use lib.ListN.{length, drop, getD, drop-of-length-le}
+use lib.Seq.{drop-cons}
 use borrow.Author.Tests.{le-leb, lt-leb, leb-true, eqb-true}
 
 -- at least the first number and at most the second
@@ -85,3 +88,25 @@ eqbs (x ∷ xs) (y ∷ ys) = eqb x y && eqbs xs ys
 pub eqbs-self : (xs : List ℕ) → eqbs xs xs ≡ true
 eqbs-self [] = refl
 eqbs-self (x ∷ xs) = rw (eqb-self x) (eqbs-self xs)
+
+pub eqbs-true : (xs ys : List ℕ) → eqbs xs ys ≡ true → xs ≡ ys
+eqbs-true [] [] h = refl
+eqbs-true [] (y ∷ ys) h = not-both false h refl
+eqbs-true (x ∷ xs) [] h = not-both false h refl
+eqbs-true (x ∷ xs) (y ∷ ys) h =
+    let first = eqb-true x y (and-left (eqb x y) (eqbs xs ys) h) in
+    let rest = eqbs-true xs ys (and-right (eqb x y) (eqbs xs ys) h) in
+    cc
+
+pub eqbs-lengths : (xs ys : List ℕ) → (length xs ≡ length ys → ⊥) → eqbs xs ys ≡ false
+eqbs-lengths [] [] h = absurd (h refl)
+eqbs-lengths [] (y ∷ ys) h = refl
+eqbs-lengths (x ∷ xs) [] h = refl
+eqbs-lengths (x ∷ xs) (y ∷ ys) h = rw (eqbs-lengths xs ys (λ e. h (ap suc e))) (and-false (eqb x y))
+
+-- what is left to compare at an index, and past the end
+pub eqbs-next : (xs ys : List ℕ) (i : ℕ) → i < length xs → i < length ys → eqbs (drop i xs) (drop i ys) ≡ (eqb (getD xs i 0) (getD ys i 0) && eqbs (drop (i + 1) xs) (drop (i + 1) ys))
+eqbs-next xs ys i h k = rw (add-one i, drop-cons xs i 0 h, drop-cons ys i 0 k)
+
+pub eqbs-none : (xs ys : List ℕ) (i : ℕ) → length xs ≤ i → length ys ≤ i → eqbs (drop i xs) (drop i ys) ≡ true
+eqbs-none xs ys i h k = rw (drop-of-length-le xs h, drop-of-length-le ys k)

@@ -13,7 +13,7 @@ use Rattle.queue.specs.Queue.{append}
 use Rattle.hold.specs.Hold.{first-change-queue, first-change-images}
 use Rattle.layout.specs.declared.Found.{Found}
 use Rattle.layout.specs.declared.Found.the-variants.{At, Nowhere}
-use Rattle.queue.specs.declared.Entry.{Entry}
+use Rattle.entries.specs.declared.Entry.{Entry}
 use Rattle.queue.specs.declared.Lookup.{Lookup}
 use Rattle.queue.specs.declared.Lookup.the-variants.{Held, Free}
 use Rattle.images.specs.declared.Removal.the-variants.{One, Unchanged, All}

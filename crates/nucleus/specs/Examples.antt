@@ -13,7 +13,9 @@ use Rattle.values.specs.Values.{stored, allowed, null-value, below-zero}
 use Rattle.elements.specs.Elements.{field-named, format-valid, element, places, named-twice, length-needed, needed-within}
 use Rattle.fields.specs.Fields.{fits, read-fields, write-fields, values-allowed, null-record}
 use Rattle.store.specs.Store.{slot-fits, has-record, get, lowest, elsewhere, put-record, empty, fresh, file-part, with-part}
-use Rattle.queue.specs.Queue.{pack-of, unpack-of, entries, holder, held-by, repeated, append, change}
+use Rattle.entries.specs.Entries.{pack-of, unpack-of, entries}
+use Rattle.queue.specs.Queue.{holder, held-by, append, change}
+use Rattle.repeats.specs.Repeats.{repeated}
 use Rattle.images.specs.Closing.{closed}
 use Rattle.images.specs.Images as images
 use Rattle.hold.specs.Hold.{keep-image, settled, first-change-queue, first-change-images, put-back-in, put-back, restore}

@@ -5,10 +5,10 @@ use mathlib.Core.List.{List, []}
 use lib.Dec.{eqb}
 use lib.ListN.{getD, set, replicate}
 use Rattle.definition.specs.Table.{max-files}
-use Rattle.queue.specs.Queue.{entries}
+use Rattle.entries.specs.Entries.{entries}
 use Rattle.nucleus.specs.Users.{fresh-user}
 use Rattle.definition.specs.declared.Definition.{Definition}
-use Rattle.queue.specs.declared.Entry.{Entry}
+use Rattle.entries.specs.declared.Entry.{Entry}
 use Rattle.nucleus.specs.declared.Call.{Call}
 use Rattle.nucleus.specs.declared.Answer.{Answer}
 use Rattle.nucleus.specs.declared.Command.{Command}

@@ -10,7 +10,8 @@ use Rattle.definition.specs.Table.{beyond, file-at}
 use Rattle.layout.specs.Layout.{place}
 use Rattle.store.specs.Lists.{from-to}
 use Rattle.store.specs.Store.{first-of, has-record, lowest, file-part, with-part}
-use Rattle.queue.specs.Queue.{is-of, holder}
+use Rattle.entries.specs.Entries.{is-of}
+use Rattle.queue.specs.Queue.{holder}
 use Rattle.definition.specs.declared.Definition.{Definition}
 use Rattle.definition.specs.declared.File.{File}
 use Rattle.layout.specs.declared.Found.{Found}

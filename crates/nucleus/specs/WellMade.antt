@@ -9,12 +9,12 @@ use Rattle.lists.specs.Folds.{all}
 use Rattle.definition.specs.Table.{file-at, file-count, files-of}
 use Rattle.layout.specs.Layout.{store-size, image-length, place}
 use Rattle.validity.specs.Validity.{valid}
-use Rattle.queue.specs.Queue.{repeated}
+use Rattle.repeats.specs.Repeats.{repeated}
 use Rattle.definition.specs.declared.Definition.{Definition}
 use Rattle.definition.specs.declared.File.{File}
 use Rattle.layout.specs.declared.Found.{Found}
 use Rattle.layout.specs.declared.Found.the-variants.{At, Nowhere}
-use Rattle.queue.specs.declared.Entry.{Entry}
+use Rattle.entries.specs.declared.Entry.{Entry}
 use Rattle.nucleus.specs.Nucleus.{Nucleus, max-users, max-capacity, max-et-data, user-at, entries-of}
 use Rattle.nucleus.specs.declared.User.{User}
 use Rattle.nucleus.specs.declared.EtData.{EtData}

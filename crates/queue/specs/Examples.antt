@@ -1,12 +1,13 @@
--- Worked examples: entries and their words, and lookups, computed by the definitions. Assumes nothing.
+-- Worked examples: lookups, counts, a new entry and a change, computed by the definitions. Assumes nothing.
 use Prim.Native.Nat.{ℕ, _+_}
 use mathlib.Core.Path.{_≡_, refl}
-use mathlib.Core.Bool.{Bool, true, false, not, _&&_}
+use mathlib.Core.Bool.{Bool, true, false, _&&_}
 use mathlib.Core.List.{List, [], _∷_}
 use lib.Dec.{eqb}
 use Rattle.lists.specs.Folds.{all}
-use Rattle.queue.specs.Queue.{pack-of, unpack-of, entries, holder, held-by, repeated, append, change}
-use Rattle.queue.specs.declared.Entry.{Entry}
+use Rattle.entries.specs.Entries.{pack-of, unpack-of, entries}
+use Rattle.queue.specs.Queue.{holder, held-by, append, change}
+use Rattle.entries.specs.declared.Entry.{Entry}
 use Rattle.queue.specs.declared.Lookup.{Lookup}
 use Rattle.queue.specs.declared.Lookup.the-variants.{Held, Free}
 
@@ -15,19 +16,6 @@ first = record { user = 1; file = 16; isn = 4095; changed = true; existed = fals
 
 second : Entry
 second = record { user = 32; file = 1; isn = 4095; changed = false; existed = true }
-
--- an entry as a word, and back; a bit that no entry uses is not looked at
-word : pack-of first ≡ 0x1_0FFF_1001
-unfolding first pack-of
-word = refl
-
-back : unpack-of 0x1_0FFF_1001 ≡ first
-unfolding first unpack-of
-back = refl
-
-more-bits : unpack-of 0xF000_0001_0FFF_1001 ≡ first
-unfolding first unpack-of
-more-bits = refl
 
 words : List ℕ
 words = pack-of first ∷ pack-of second ∷ pack-of first ∷ 5 ∷ []
@@ -59,14 +47,10 @@ rows-right : all right rows ≡ true
 unfolding first second words place rows right pack-of unpack-of entries holder
 rows-right = refl
 
--- ---- how many a user has, and the third entry of the file and ISN of the first
+-- ---- how many a user has
 counts : (eqb (held-by (entries words 3) 1) 2 && (eqb (held-by (entries words 2) 32) 1 && eqb (held-by (entries words 2) 3) 0)) ≡ true
 unfolding first second words pack-of unpack-of entries held-by
 counts = refl
-
-twice : (repeated (entries words 3) && not (repeated (entries words 2))) ≡ true
-unfolding first second words pack-of unpack-of entries repeated
-twice = refl
 
 -- ---- a new entry, and a change
 added : entries (append words 2 second) 3 ≡ first ∷ second ∷ second ∷ []

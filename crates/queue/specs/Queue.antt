@@ -1,42 +1,17 @@
--- The hold queue (document 01: "the hold queue is a lent list of entries (user, file, ISN, changed or not, record there before or not), oldest
--- first"). How an entry lies in its word is said by `pack-of` and `unpack-of`; everything else speaks of lists of entries.
-use Prim.Native.Nat.{ℕ, _+_, _*_, _/_, _%_}
-use mathlib.Core.Bool.{Bool, true, false, not, _&&_}
-use mathlib.Core.List.{List, [], _∷_, map}
+-- The hold queue: who holds what, a new entry, and a change.
+use Prim.Native.Nat.{ℕ, _+_}
+use mathlib.Core.Bool.{Bool, true}
+use mathlib.Core.List.{List, [], _∷_}
 use lib.Dec.{eqb}
-use lib.ListN.{take, getD, set}
+use lib.ListN.{getD, set}
 use Rattle.lists.specs.Tests.{cond}
-use Rattle.lists.specs.Folds.{total, distinct}
-use Rattle.queue.specs.declared.Entry.{Entry}
+use Rattle.lists.specs.Folds.{total}
+use Rattle.entries.specs.Entries.{bit, pack-of, unpack-of, is-of}
+use Rattle.entries.specs.declared.Entry.{Entry}
 use Rattle.queue.specs.declared.Lookup.{Lookup}
 use Rattle.queue.specs.declared.Lookup.the-variants.{Held, Free}
 
--- ---- an entry and its word
-abbrev pub bit : Bool → ℕ
-bit true = 1
-bit false = 0
-
-unfoldable pub pack-of : Entry → ℕ
-pack-of e = e .user + e .file * 256 + e .isn * 65536 + bit (e .changed) * 4294967296 + bit (e .existed) * 8589934592
-
--- bits above those of an entry are not looked at
-unfoldable pub unpack-of : ℕ → Entry
-unpack-of w = record {
-  user = w % 256;
-  file = w / 256 % 256;
-  isn = w / 65536 % 65536;
-  changed = eqb (w / 4294967296 % 2) 1;
-  existed = eqb (w / 8589934592 % 2) 1;
-}
-
--- the entries in use: those of the first `count` words, or of all where there are fewer
-unfoldable pub entries : List ℕ → ℕ → List Entry
-entries words count = map unpack-of (take count words)
-
 -- ---- who holds what
-abbrev pub is-of : ℕ → ℕ → Entry → Bool
-is-of file isn e = eqb (e .file) file && eqb (e .isn) isn
-
 -- the first entry from here on of the file and ISN, with its place
 abbrev pub seek : ℕ → ℕ → List Entry → ℕ → Lookup
 seek file isn [] i = Free
@@ -51,13 +26,6 @@ one-of user e = bit (eqb (e .user) user)
 
 unfoldable pub held-by : List Entry → ℕ → ℕ
 held-by es user = total (one-of user) es
-
--- some file and ISN stand in two entries
-abbrev pub alike : Entry → Entry → Bool
-alike e f = is-of (f .file) (f .isn) e
-
-unfoldable pub repeated : List Entry → Bool
-repeated es = not (distinct alike es)
 
 -- ---- what is written; a place past the end changes nothing
 unfoldable pub append : List ℕ → ℕ → Entry → List ℕ

@@ -8,8 +8,8 @@ use Prim.Native.Nat.{ℕ}
 use lib.Dec.{eqb}
 use borrow.Author.Tests.{eqb-true}
 use Rattle.lists.specs.Tests.{and-left, and-right}
-use Rattle.lists.specs.Folds.{any, all}
-use Rattle.lists.specs.Sift.{keep, sift-sift, sift-ext, sift-append, all-append, all-map}
+use Rattle.lists.specs.Folds.{any, all, all-append}
+use Rattle.lists.specs.Sift.{keep, sift-sift, sift-ext, sift-append, all-map}
 use Rattle.transactions.specs.Slots.{Slot}
 use Rattle.transactions.specs.Machine.{Entry, Change, hold, release, release-all, change, end, back-out, Ground, Laws, new-entry, of-user, at-key, held-by-other, with-hold, marked, mark, Machine, restore, act, Journal, uncommitted-of, strike, closed, log, replay}
 use Rattle.transactions.specs.View.{Single, at, hit, back, back-sift, back-hold, back-mark, back-twice, plus, less, held, at-mark, back-change, back-still, single-map, single-hold, stay}
@@ -151,7 +151,7 @@ module _ (G : Ground) where
       where
         go : (b : Bool) → all fitting (cond b q (q ++ (new-entry u k ∷ []))) ≡ true
         go true = f
-        go false = all-append fitting q (new-entry u k ∷ []) f refl
+        go false = rw (all-append fitting q (new-entry u k ∷ []), f)
 
     fits-mark : (k : ℕ) (x : Slot) → fit k x ≡ true → (e : Entry) → fitting e ≡ true → fitting (mark k x e) ≡ true
     fits-mark k x i e f = go (at-key k e) refl

@@ -2,7 +2,7 @@
 -- Assumes nothing.
 use mathlib.Core.Path.{sym, ap, _∙_}
 use borrow.Author.Tests.{le-leb, lt-leb}
-use Rattle.queue.specs.declared.Entry.{Entry}
+use Rattle.entries.specs.declared.Entry.{Entry}
 use Rattle.hold.specs.Hold.{settled, first-change-queue, first-change-images}
 use borrow.Author.Needs.{needs}
 use Rattle.hold.proofs.first_change.Statement.{statement}

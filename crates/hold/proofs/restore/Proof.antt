@@ -2,8 +2,8 @@
 -- Assumes nothing.
 use mathlib.Core.List.{List, _∷_}
 use lib.ListN.{getD, length, take, drop}
-use Rattle.queue.specs.Queue.{unpack-of, entries}
-use Rattle.queue.specs.declared.Entry.{Entry}
+use Rattle.entries.specs.Entries.{unpack-of, entries}
+use Rattle.entries.specs.declared.Entry.{Entry}
 use Rattle.definition.specs.declared.Definition.{Definition}
 use native.Mathlib.Nat.{zero-mul, mul-le-mul-right}
 use native.Mathlib.Omega.{arith}
@@ -12,7 +12,7 @@ use borrow.Author.Needs.{needs}
 use Prim.Native.Nat.{ℕ, _+_, _-_, _*_, _≤_}
 use lib.Seq.{drop-drop}
 use borrow.Author.Tests.{leb-true, not-true, not-false}
-use Rattle.queue.specs.Laws.{entry-next, no-entry-left}
+use Rattle.entries.specs.Laws.{entry-next, no-entry-left}
 use Rattle.hold.specs.Hold.{restored, restore, put-back-of}
 use Rattle.lists.specs.Parts.{part-take}
 use Rattle.hold.proofs.restore.Statement.{statement}

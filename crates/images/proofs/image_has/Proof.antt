@@ -8,8 +8,8 @@ use native.Mathlib.Omega.{arith}
 use borrow.Author.Needs.{needs}
 use lib.ListN.{length, drop}
 use Rattle.lists.specs.Folds.{any}
-use Rattle.queue.specs.Queue.{entries}
-use Rattle.queue.specs.Laws.{entry-next, no-entry-left}
+use Rattle.entries.specs.Entries.{entries}
+use Rattle.entries.specs.Laws.{entry-next, no-entry-left}
 use Rattle.images.specs.Images.{with-images, taken-by, image-has}
 use Rattle.images.proofs.image_has.Statement.{statement}
 use Rattle.images.proofs.image_has.Tie as tie

@@ -1,7 +1,7 @@
 -- `remove` meets its contract. The loop's invariant: of the first i entries, those that stay are closed up, with their images.
 -- Assumes nothing.
 use lib.Dec.{leb}
-use Rattle.queue.specs.Queue.{bit, unpack-of, entries}
+use Rattle.entries.specs.Entries.{bit, unpack-of, entries}
 use Rattle.images.specs.Closing.{set-count, closed, length-closed}
 use Rattle.images.specs.Images.{stays, remove-queue, remove-images, remove-count}
 use Prim.Native.Nat.{ℕ, _+_, _-_, _*_, _≤_, _<_}

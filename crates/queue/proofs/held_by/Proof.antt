@@ -1,6 +1,7 @@
 -- `held_by` meets its contract. The loop's invariant: the sum so far and the entries that are left add up to the whole.
 -- Assumes nothing.
-use Rattle.queue.specs.Queue.{bit, one-of, entries, held-by}
+use Rattle.entries.specs.Entries.{bit, entries}
+use Rattle.queue.specs.Queue.{one-of, held-by}
 use Prim.Native.Nat.{_+_, _-_, _≤_, min}
 use mathlib.Core.Path.{_≡_, sym, ap, _∙_}
 use native.Mathlib.Omega.{arith}
@@ -9,7 +10,7 @@ use lib.ListN.{length, drop}
 use mathlib.Core.Logic.{⊎-elim}
 use borrow.Author.Tests.{eq-eqb, ne-eqb}
 use Rattle.lists.specs.Folds.{total}
-use Rattle.queue.specs.Laws.{entry-next, no-entry-left}
+use Rattle.entries.specs.Laws.{entry-next, no-entry-left}
 use Rattle.queue.proofs.held_by.Statement.{statement}
 use Rattle.queue.proofs.held_by.Tie as tie
 

@@ -5,8 +5,9 @@ use mathlib.Core.Path.{_≡_, sym, _∙_}
 use native.Mathlib.Omega.{arith}
 use borrow.Author.Needs.{needs}
 use lib.ListN.{length, drop}
-use Rattle.queue.specs.Queue.{is-of, entries, seek, holder}
-use Rattle.queue.specs.Laws.{entry-next, no-entry-left}
+use Rattle.entries.specs.Entries.{is-of, entries}
+use Rattle.queue.specs.Queue.{seek, holder}
+use Rattle.entries.specs.Laws.{entry-next, no-entry-left}
 use Rattle.queue.proofs.holder.Statement.{statement}
 use Rattle.queue.proofs.holder.Tie as tie
 

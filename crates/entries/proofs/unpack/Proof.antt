@@ -1,0 +1,21 @@
+-- `unpack` meets its contract. Assumes nothing.
+use Rattle.entries.specs.Entries.{unpack-of}
+use borrow.Author.Needs.{needs}
+use Rattle.entries.proofs.unpack.Statement.{statement}
+use Rattle.entries.proofs.unpack.Tie as tie
+
+cast-t3 : tie.Need-cast-t3
+cast-t3 c = search needs
+
+cast-t6 : tie.Need-cast-t6
+cast-t6 c = search needs
+
+cast-t9 : tie.Need-cast-t9
+cast-t9 c = search needs
+
+returns : tie.Need-returns
+unfolding unpack-of
+returns c = search needs
+
+pub unpack-spec : {M : Type 1} → statement M
+unpack-spec = tie.close (tie.spec cast-t3 cast-t6 cast-t9 returns)

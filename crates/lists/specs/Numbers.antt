@@ -1,0 +1,27 @@
+-- The numbers from one to another.
+-- Assumes nothing.
+use mathlib.Core.Path.{_≡_}
+use mathlib.Core.List.{List, [], _∷_}
+use Prim.Native.Nat.{ℕ, zero, suc, _+_, _-_, _≤_, _<_}
+use native.Mathlib.Omega.{arith}
+use Rattle.lists.specs.Folds.{Each}
+
+-- n numbers, from k up
+abbrev pub numbers : ℕ → ℕ → List ℕ
+numbers zero k = []
+numbers (suc n) k = k ∷ numbers n (k + 1)
+
+-- the numbers from k to n, both counted
+abbrev pub from-to : ℕ → ℕ → List ℕ
+from-to k n = numbers (n + 1 - k) k
+
+pub from-to-more : (k n : ℕ) → k ≤ n → from-to k n ≡ k ∷ from-to (k + 1) n
+from-to-more k n h = let e : n + 1 - k ≡ suc (n + 1 - (k + 1)) = omega arith in rw e
+
+pub from-to-none : (k n : ℕ) → n < k → from-to k n ≡ []
+from-to-none k n h = let e : n + 1 - k ≡ zero = omega arith in rw e
+
+-- a property of each of them
+pub each-number : (P : ℕ → Type 0) (n k : ℕ) → ((m : ℕ) → k ≤ m → m < k + n → P m) → Each P (numbers n k)
+each-number P zero k h = tt
+each-number P (suc n) k h = (h k (omega arith) (omega arith), each-number P n (k + 1) (λ m a b. h m (omega arith) (omega arith)))

@@ -1,0 +1,5 @@
+pub mod Repeats
+pub mod Marks
+pub mod Laws
+pub mod Passed
+pub mod Examples
