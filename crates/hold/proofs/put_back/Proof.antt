@@ -9,11 +9,10 @@ use Rattle.definition.specs.Table.{file-at, file-count}
 use Rattle.definition.specs.Shape.{DefinitionShape}
 use Rattle.definition.proofs.Known.{definition-known}
 use Rattle.layout.specs.Layout.{file-size, file-offset, store-size, place}
-use Rattle.layout.specs.Laws.{place-found, file-within}
+use Rattle.layout.specs.Laws.{place-found, offset-next, file-within}
 use Rattle.layout.specs.declared.Found.the-variants.{At}
 use Rattle.store.specs.Store.{file-part, with-part}
 use Rattle.hold.specs.Hold.{put-back}
-use Rattle.hold.specs.Parts.{offset-next}
 use borrow.Author.Needs.{needs}
 use Rattle.hold.proofs.put_back.Statement.{statement}
 use Rattle.hold.proofs.put_back.Tie as tie
