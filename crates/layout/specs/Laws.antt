@@ -44,6 +44,11 @@ module _ (f : File) (s : FileShape f) where
   unfolding field-offset
   field-before k j h b = row-before field-length (field-count f) (f .fields) no-field places-fields k j h b
 
+  -- a field ends where the next one begins
+  pub field-follows : (k : ℕ) → k < field-count f → field-offset f (k + 1) ≡ field-offset f k + field-length (field-at f k)
+  unfolding field-offset
+  field-follows k h = rw (add-one k) (row-next field-length (field-count f) (f .fields) no-field places-fields k h)
+
   pub field-within : (k : ℕ) → k < field-count f → field-offset f k + field-length (field-at f k) ≤ record-length f
   unfolding field-offset record-length
   field-within k h = row-within field-length (field-count f) (f .fields) no-field places-fields k h
@@ -70,9 +75,9 @@ module _ (d : Definition) (s : DefinitionShape d) where
   file-before i j h b = row-before file-size (file-count d) (d .files) beyond places-files i j h b
 
   -- a file's part of the store ends where the next one begins
-  pub offset-next : (i : ℕ) → i < file-count d → file-offset d (i + 1) ≡ file-offset d i + file-size (file-at d i)
+  pub file-follows : (i : ℕ) → i < file-count d → file-offset d (i + 1) ≡ file-offset d i + file-size (file-at d i)
   unfolding file-offset
-  offset-next i h = rw (add-one i) (row-next file-size (file-count d) (d .files) beyond places-files i h)
+  file-follows i h = rw (add-one i) (row-next file-size (file-count d) (d .files) beyond places-files i h)
 
   pub file-within : (i : ℕ) → i < file-count d → file-offset d i + file-size (file-at d i) ≤ store-size d
   unfolding file-offset store-size

@@ -18,6 +18,15 @@ use Rattle.values.specs.Values.{unpacked-digit, digit, positive-sign, ne
 use Rattle.definition.specs.declared.Format.{Format}
 use Rattle.definition.specs.declared.Format.the-variants.{Alphanumeric, Binary, Unpacked, Packed}
 
+-- bytes that any are allowed in are stored as they are
+pub plain-stored : (v : List ℕ) → stored Alphanumeric v ≡ v
+unfolding stored
+plain-stored v = refl
+
+pub plain-allowed : (v : List ℕ) → allowed Alphanumeric v ≡ true
+unfolding allowed
+plain-allowed v = refl
+
 -- ---- lengths
 pub stored-length : (f : Format) (v : List ℕ) → length (stored f v) ≡ length v
 unfolding stored
