@@ -13,7 +13,7 @@ use Rattle.values.specs.Values.{allowed, stored, null-value}
 use Rattle.elements.specs.Elements.{places, length-needed}
 use Rattle.layout.specs.declared.Found.{Found}
 use Rattle.layout.specs.declared.Found.the-variants.{At, Nowhere}
-use Rattle.fields.specs.declared.Spot.{Spot}
+use Rattle.fields.specs.declared.Span.{Span}
 use Rattle.definition.specs.declared.Format.the-variants.{Alphanumeric}
 use Rattle.definition.specs.declared.Field.{Field}
 use Rattle.definition.specs.declared.File.{File}
@@ -30,19 +30,19 @@ abbrev pub behind : File → ℕ → List ℕ → List ℕ
 behind f k values = drop (field-length (field-at f k)) values
 
 -- ---- where a field that was found lies in its record, and what lies there; no bytes, at the front, where none was found
-abbrev pub spot-of : File → Found → Spot
-spot-of f (At k) = record { start = field-offset f k; length = field-length (field-at f k); format = field-at f k .format }
-spot-of f Nowhere = record { start = 0; length = 0; format = Alphanumeric }
+abbrev pub span-of : File → Found → Span
+span-of f (At k) = record { start = field-offset f k; length = field-length (field-at f k); format = field-at f k .format }
+span-of f Nowhere = record { start = 0; length = 0; format = Alphanumeric }
 
-abbrev pub spot-bytes : Spot → List ℕ → List ℕ
-spot-bytes s content = take (s .length) (drop (s .start) content)
+abbrev pub span-bytes : Span → List ℕ → List ℕ
+span-bytes s content = take (s .length) (drop (s .start) content)
 
 -- the value at the front of some values, put there
-abbrev pub spot-written : Spot → List ℕ → List ℕ → List ℕ
-spot-written s values content = sets content (s .start) (stored (s .format) (take (s .length) values))
+abbrev pub span-written : Span → List ℕ → List ℕ → List ℕ
+span-written s values content = sets content (s .start) (stored (s .format) (take (s .length) values))
 
-abbrev pub spot-allowed : Spot → List ℕ → Bool
-spot-allowed s values = allowed (s .format) (take (s .length) values)
+abbrev pub span-allowed : Span → List ℕ → Bool
+span-allowed s values = allowed (s .format) (take (s .length) values)
 
 -- ---- reading
 -- the bytes of the fields at some places of a record, one after another

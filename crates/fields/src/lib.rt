@@ -7,7 +7,7 @@ ghost use lib.Seq.{sets};
 ghost use Rattle.lists.specs.Tests.{cond};
 ghost use Rattle.values.specs.Values.{null-value};
 ghost use Rattle.elements.specs.Elements.{element, length-needed};
-ghost use Rattle.fields.specs.Fields.{spot-of, spot-bytes, spot-written, spot-allowed, fits, read-fields, write-fields, values-allowed, null-record};
+ghost use Rattle.fields.specs.Fields.{span-of, span-bytes, span-written, span-allowed, fits, read-fields, write-fields, values-allowed, null-record};
 use definition::File;
 use definition::Format;
 use elements::ELEMENT;
@@ -15,18 +15,18 @@ use elements::Needed;
 use layout::Found;
 
 // Where a field lies in its record, and what lies there.
-struct Spot {
+struct Span {
     start: usize,
     length: usize,
     format: Format,
 }
 
-// The spot of a field that was found. No bytes, at the front, where none was: reading and writing them does nothing.
-fn spot_of(f: File, found: Found) -> Spot
-    ensures { λ r. ⌜ r ≡ spot-of f found ⌝ }
+// The span of a field that was found. No bytes, at the front, where none was: reading and writing them does nothing.
+fn span_of(f: File, found: Found) -> Span
+    ensures { λ r. ⌜ r ≡ span-of f found ⌝ }
 {
     let Found::At(k) = found else {
-        return Spot {
+        return Span {
             start: 0,
             length: 0,
             format: Format::Alphanumeric,
@@ -36,26 +36,26 @@ fn spot_of(f: File, found: Found) -> Spot
     let start = layout::field_offset(f, k);
     let length = g.length as usize;
     let format = g.format;
-    Spot {
+    Span {
         start,
         length,
         format,
     }
 }
 
-// The spot of the field that the element at a byte of the format buffer names.
-fn spot_at(f: File, format: &[u8], i: usize) -> Spot
-    ensures { λ r. ⌜ r ≡ spot-of f (element f (now (format .entry)) i) ⌝ }
+// The span of the field that the element at a byte of the format buffer names.
+fn span_at(f: File, format: &[u8], i: usize) -> Span
+    ensures { λ r. ⌜ r ≡ span-of f (element f (now (format .entry)) i) ⌝ }
 {
     let found = elements::element(f, format, i);
-    spot_of(f, found)
+    span_of(f, found)
 }
 
-// Copies the bytes of a spot into the buffer at a place.
-fn read_spot(s: Spot, content: &[u8], buffer: &mut [u8], at: usize)
+// Copies the bytes of a span into the buffer at a place.
+fn read_span(s: Span, content: &[u8], buffer: &mut [u8], at: usize)
     requires { ⌜ s .start + s .length ≤ length (now content) ⌝ }
     requires { ⌜ at + s .length ≤ length (now buffer) ⌝ }
-    ensures { λ _. ⌜ now (buffer .exit) ≡ sets (now (buffer .entry)) at (spot-bytes s (now (content .entry))) ⌝ }
+    ensures { λ _. ⌜ now (buffer .exit) ≡ sets (now (buffer .entry)) at (span-bytes s (now (content .entry))) ⌝ }
 {
     let start = s.start;
     let length = s.length;
@@ -65,11 +65,11 @@ fn read_spot(s: Spot, content: &[u8], buffer: &mut [u8], at: usize)
     );
 }
 
-// Puts the value at a place, in stored form, into a spot.
-fn write_spot(s: Spot, values: &[u8], content: &mut [u8], at: usize)
+// Puts the value at a place, in stored form, into a span.
+fn write_span(s: Span, values: &[u8], content: &mut [u8], at: usize)
     requires { ⌜ s .start + s .length ≤ length (now content) ⌝ }
     requires { ⌜ at + s .length ≤ length (now values) ⌝ }
-    ensures { λ _. ⌜ now (content .exit) ≡ spot-written s (drop at (now (values .entry))) (now (content .entry)) ⌝ }
+    ensures { λ _. ⌜ now (content .exit) ≡ span-written s (drop at (now (values .entry))) (now (content .entry)) ⌝ }
 {
     let start = s.start;
     let length = s.length;
@@ -81,18 +81,18 @@ fn write_spot(s: Spot, values: &[u8], content: &mut [u8], at: usize)
     );
 }
 
-// Whether the value at a place is allowed in a spot.
-fn allowed_spot(s: Spot, values: &[u8], at: usize) -> bool
+// Whether the value at a place is allowed in a span.
+fn allowed_span(s: Span, values: &[u8], at: usize) -> bool
     requires { ⌜ at + s .length ≤ length (now values) ⌝ }
-    ensures { λ r. ⌜ r ≡ spot-allowed s (drop at (now (values .entry))) ⌝ }
+    ensures { λ r. ⌜ r ≡ span-allowed s (drop at (now (values .entry))) ⌝ }
 {
     let length = s.length;
     let kind = s.format;
     values::allowed(kind, &values[at..at + length])
 }
 
-// Puts the null value of its format into a spot.
-fn null_spot(s: Spot, content: &mut [u8])
+// Puts the null value of its format into a span.
+fn null_span(s: Span, content: &mut [u8])
     requires { ⌜ s .start + s .length ≤ length (now content) ⌝ }
     ensures { λ _. ⌜ now (content .exit) ≡ sets (now (content .entry)) (s .start) (null-value (s .format) (s .length)) ⌝ }
 {
@@ -118,8 +118,8 @@ pub fn read_fields(f: File, format: &[u8], content: &[u8], buffer: &mut [u8]) ->
     let mut i = 0;
     let mut at = 0;
     while i < format.len() {
-        let s = spot_at(f, format, i);
-        read_spot(s, content, buffer, at);
+        let s = span_at(f, format, i);
+        read_span(s, content, buffer, at);
         at += s.length;
         i += ELEMENT;
     }
@@ -141,8 +141,8 @@ pub fn write_fields(f: File, format: &[u8], values: &[u8], content: &mut [u8])
     let mut i = 0;
     let mut at = 0;
     while i < format.len() {
-        let s = spot_at(f, format, i);
-        write_spot(s, values, content, at);
+        let s = span_at(f, format, i);
+        write_span(s, values, content, at);
         at += s.length;
         i += ELEMENT;
     }
@@ -159,8 +159,8 @@ pub fn values_allowed(f: File, format: &[u8], values: &[u8]) -> bool
     let mut i = 0;
     let mut at = 0;
     while i < format.len() {
-        let s = spot_at(f, format, i);
-        if !allowed_spot(s, values, at) {
+        let s = span_at(f, format, i);
+        if !allowed_span(s, values, at) {
             return false;
         }
         at += s.length;
@@ -179,8 +179,8 @@ pub fn put_nulls(f: File, content: &mut [u8])
     let n = definition::field_count(f);
     let mut k = 0;
     while k < n {
-        let s = spot_of(f, Found::At(k));
-        null_spot(s, content);
+        let s = span_of(f, Found::At(k));
+        null_span(s, content);
         k += 1;
     }
 }

@@ -3,6 +3,7 @@ ghost use mathlib.Core.Path.{_≡_};
 ghost use Prim.Native.Nat.{_+_, _*_};
 ghost use lib.Dec.{leb};
 ghost use Rattle.layout.specs.Layout.{image-length};
+ghost use Rattle.queue.specs.Queue.{unpack-of};
 ghost use Rattle.images.specs.Images.{remove-queue, remove-images, remove-count};
 ghost use Rattle.images.specs.declared.Removal.the-variants.{All};
 ghost use Rattle.hold.specs.Hold.{keep-image, first-change-queue, first-change-images, put-back-in, put-back, put-back-of, restore};
@@ -91,9 +92,11 @@ fn put_back(d: Definition, e: Entry, image: &[u8], store: &mut [u8])
     put_back_in(f, e, image, &mut store[start..end]);
 }
 
-fn put_back_of(d: Definition, user: u8, e: Entry, image: &[u8], store: &mut [u8])
-    ensures { λ _. ⌜ now (store .exit) ≡ put-back-of d user e (now (image .entry)) (now (store .entry)) ⌝ }
+// The same of an entry as it stands in the queue, where it is the user's and changed.
+fn put_back_of(d: Definition, user: u8, word: u64, image: &[u8], store: &mut [u8])
+    ensures { λ _. ⌜ now (store .exit) ≡ put-back-of d user (unpack-of word) (now (image .entry)) (now (store .entry)) ⌝ }
 {
+    let e = queue::unpack(word);
     if e.user != user {
         return;
     }
@@ -120,9 +123,8 @@ fn restore(
     let n = slices::least(count, queue.len());
     let mut i = 0;
     while i < n {
-        let e = queue::unpack(queue[i]);
         let start = i * width;
-        put_back_of(d, user, e, &images[start..start + width], store);
+        put_back_of(d, user, queue[i], &images[start..start + width], store);
         i += 1;
     }
 }

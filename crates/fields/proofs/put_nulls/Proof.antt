@@ -58,11 +58,11 @@ loop-holds : tie.Need-loop-holds Inv-loop μ-loop
 unfolding field-offset
 loop-holds c = (refl, refl)
 
-spot-of-requires : tie.Need-spot-of-requires Inv-loop μ-loop
-spot-of-requires c κs = search needs
+span-of-requires : tie.Need-span-of-requires Inv-loop μ-loop
+span-of-requires c κs = search needs
 
-null-spot-requires : tie.Need-null-spot-requires Inv-loop μ-loop
-null-spot-requires c κs = rw (c .before .spot-of .ensures) (room (c .before .before))
+null-span-requires : tie.Need-null-span-requires Inv-loop μ-loop
+null-span-requires c κs = rw (c .before .span-of .ensures) (room (c .before .before))
 
 add-k : tie.Need-add-k Inv-loop μ-loop
 add-k c = omega (arith, in-use (c .before .before .before .before .before))
@@ -82,9 +82,9 @@ loop-again c =
     let v = null-value (g .format) (field-length g) in
     let rest = nulls (drop (k + 1) (fields-of f)) in
     let next = field-next f (shape l) k (in-use i) in
-    let now : p .null-spot .last .1 .0 ≡ sets (l .loop .content) (field-offset f k) v = rw (o .spot-of .ensures) at (p .null-spot .ensures) in
+    let now : p .null-span .last .1 .0 ≡ sets (l .loop .content) (field-offset f k) v = rw (o .span-of .ensures) at (p .null-span .ensures) in
     let turn : sets (l .loop .content) (field-offset f k) (nulls (drop k (fields-of f))) ≡ sets (sets (l .loop .content) (field-offset f k) v) (field-offset f k + field-length g) rest = rw (next, sets-append (l .loop .content) (field-offset f k) v rest, null-length (g .format) (field-length g)) refl in
-    (omega (arith, p .null-spot .kept .1 .0, l .loop .inv .0), rw (now, field-follows f (shape l) k (in-use i)) (sym turn ∙ l .loop .inv .1))
+    (omega (arith, p .null-span .kept .1 .0, l .loop .inv .0), rw (now, field-follows f (shape l) k (in-use i)) (sym turn ∙ l .loop .inv .1))
 
 same-length : tie.Need-same-length Inv-loop μ-loop
 same-length c = c .before .loop .inv .0
@@ -109,8 +109,8 @@ put-nulls-spec =
     returns
     field-count-requires
     loop-holds
-    spot-of-requires
-    null-spot-requires
+    span-of-requires
+    null-span-requires
     add-k
     loop-less
     loop-again

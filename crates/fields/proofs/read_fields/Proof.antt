@@ -14,9 +14,9 @@ use Rattle.layout.specs.Layout.{record-length}
 use Rattle.definition.proofs.Known.{file-known}
 use lib.Seq.{sets, length-sets}
 use Rattle.lists.specs.Parts.{sets-append}
-use Rattle.fields.specs.Fields.{spot-bytes, read-out, fits, read-fields}
-use Rattle.fields.specs.Steps.{turn-spot, turn-inside, turn-bytes, needed-turn, read-turn}
-use Rattle.fields.specs.declared.Spot.{Spot}
+use Rattle.fields.specs.Fields.{span-bytes, read-out, fits, read-fields}
+use Rattle.fields.specs.Steps.{turn-span, turn-inside, turn-bytes, needed-turn, read-turn}
+use Rattle.fields.specs.declared.Span.{Span}
 use borrow.Author.Needs.{needs}
 use Rattle.fields.proofs.read_fields.Statement.{statement}
 use Rattle.fields.proofs.read_fields.Tie as tie
@@ -39,16 +39,16 @@ has-room c =
     let h = needed-fits (s .args .f) (s .args .format .now) (length (s .args .buffer .now)) _ (sym (n .needed-within .ensures) ∙ c .before .before .enum-told .given .1) in
     (omega (arith, h .0, h .1), omega (arith, c .before .record-length .ensures, c .if1 .left))
 
--- the spot of the element lies in the record, and its value in the record buffer
-spot-fits : (c : tie.After-spot-at Inv-loop μ-loop) → let l = c .before .before in let s = entry (l .before) in
-    (c .spot-at .result .start + c .spot-at .result .length ≤ length (s .args .content .now)) × (l .loop .at + c .spot-at .result .length ≤ length (l .loop .buffer))
-spot-fits c =
+-- the span of the element lies in the record, and its value in the record buffer
+span-fits : (c : tie.After-span-at Inv-loop μ-loop) → let l = c .before .before in let s = entry (l .before) in
+    (c .span-at .result .start + c .span-at .result .length ≤ length (s .args .content .now)) × (l .loop .at + c .span-at .result .length ≤ length (l .loop .buffer))
+span-fits c =
     let l = c .before .before in
     let s = entry (l .before) in
     let f = s .args .f in
     let format = s .args .format .now in
     let fits = has-room (l .before) in
-    rw (c .spot-at .ensures)
+    rw (c .span-at .ensures)
     (omega (arith, fits .1, l .loop .inv .1, turn-inside f format (l .loop .i) (file-known _ _ (s .good .0))), omega (arith, fits .0, l .loop .inv .0, l .loop .inv .1, needed-turn f format (l .loop .i)))
 
 needed-within-requires : tie.Need-needed-within-requires Inv-loop μ-loop
@@ -83,14 +83,14 @@ returns-2 c =
 loop-holds : tie.Need-loop-holds Inv-loop μ-loop
 loop-holds c = (omega arith, refl, refl)
 
-spot-at-requires : tie.Need-spot-at-requires Inv-loop μ-loop
-spot-at-requires c κs = search needs
+span-at-requires : tie.Need-span-at-requires Inv-loop μ-loop
+span-at-requires c κs = search needs
 
-read-spot-requires : tie.Need-read-spot-requires Inv-loop μ-loop
-read-spot-requires c κs = spot-fits (c .before)
+read-span-requires : tie.Need-read-span-requires Inv-loop μ-loop
+read-span-requires c κs = span-fits (c .before)
 
 add-at : tie.Need-add-at Inv-loop μ-loop
-add-at c = omega (arith, spot-fits (c .before .before .before .before .before) .1)
+add-at c = omega (arith, span-fits (c .before .before .before .before .before) .1)
 
 add-i : tie.Need-add-i Inv-loop μ-loop
 add-i c = omega arith
@@ -108,12 +108,12 @@ loop-again c =
     let format = s .args .format .now in
     let i = l .loop .i in
     let at = l .loop .at in
-    let x = turn-spot f format i in
+    let x = turn-span f format i in
     let content = s .args .content .now in
-    let bytes = spot-bytes x content in
+    let bytes = span-bytes x content in
     let rest = read-out f (places f (drop (i + 3) format)) content in
-    let long : o .spot-at .result .length ≡ x .length = ap (λ (p : Spot). p .length) (o .spot-at .ensures) in
-    let now : r .read-spot .last .1 .1 .0 ≡ sets (l .loop .buffer) at bytes = rw (o .spot-at .ensures) at (r .read-spot .ensures) in
+    let long : o .span-at .result .length ≡ x .length = ap (λ (p : Span). p .length) (o .span-at .ensures) in
+    let now : r .read-span .last .1 .1 .0 ≡ sets (l .loop .buffer) at bytes = rw (o .span-at .ensures) at (r .read-span .ensures) in
     let whole = turn-bytes f format i (file-known _ _ (s .good .0)) content (has-room (l .before) .1) in
     let turn : sets (l .loop .buffer) at (read-out f (places f (drop i format)) content) ≡ sets (sets (l .loop .buffer) at bytes) (at + x .length) rest = rw (read-turn f format i content, sets-append (l .loop .buffer) at bytes rest, whole) refl in
     (omega (arith, needed-turn f format i, long, l .loop .inv .0), ap length now ∙ length-sets (l .loop .buffer) at bytes ∙ l .loop .inv .1, rw (now, long) (sym turn ∙ l .loop .inv .2))
@@ -145,8 +145,8 @@ read-fields-spec =
     record-length-requires
     returns-2
     loop-holds
-    spot-at-requires
-    read-spot-requires
+    span-at-requires
+    read-span-requires
     add-at
     add-i
     loop-less

@@ -1,7 +1,7 @@
 -- `values_allowed` meets its contract. The loop's invariant: the values are allowed if those that are left are.
 -- Assumes nothing.
-use Rattle.fields.specs.Fields.{spot-allowed, allowed-in, values-allowed}
-use Rattle.fields.specs.declared.Spot.{Spot}
+use Rattle.fields.specs.Fields.{span-allowed, allowed-in, values-allowed}
+use Rattle.fields.specs.declared.Span.{Span}
 use Prim.Native.Nat.{_+_, _-_, _≤_}
 use native.Mathlib.Omega.{arith}
 use mathlib.Core.Path.{_≡_, refl, sym, ap, _∙_}
@@ -10,7 +10,7 @@ use borrow.Author.Tests.{le-leb, lt-leb, not-true, not-false}
 use Rattle.elements.specs.Elements.{places, length-needed}
 use Rattle.elements.specs.Steps.{places-end}
 use Rattle.elements.specs.Laws.{needed-fits, needed-too-long}
-use Rattle.fields.specs.Steps.{turn-spot, needed-turn, allowed-turn}
+use Rattle.fields.specs.Steps.{turn-span, needed-turn, allowed-turn}
 use borrow.Author.Needs.{needs}
 use Rattle.fields.proofs.values_allowed.Statement.{statement}
 use Rattle.fields.proofs.values_allowed.Tie as tie
@@ -33,16 +33,16 @@ has-values c =
     let h = needed-fits (s .args .f) (s .args .format .now) (length (s .args .values .now)) _ (sym (n .needed-within .ensures) ∙ c .before .enum-told .given .1) in
     omega (arith, h .0, h .1)
 
-value-here : (c : tie.After-spot-at Inv-loop μ-loop) → c .before .before .loop .at + c .spot-at .result .length ≤ length (entry (c .before .before) .args .values .now)
+value-here : (c : tie.After-span-at Inv-loop μ-loop) → c .before .before .loop .at + c .span-at .result .length ≤ length (entry (c .before .before) .args .values .now)
 value-here c =
     let l = c .before .before in
     let s = entry l in
-    rw (c .spot-at .ensures) (omega (arith, has-values l, l .loop .inv .0, needed-turn (s .args .f) (s .args .format .now) (l .loop .i)))
+    rw (c .span-at .ensures) (omega (arith, has-values l, l .loop .inv .0, needed-turn (s .args .f) (s .args .format .now) (l .loop .i)))
 
 -- what was judged of it
-judged : (c : tie.After-allowed-spot Inv-loop μ-loop) → let l = c .before .before .before in let s = entry l in
-    c .allowed-spot .result ≡ spot-allowed (turn-spot (s .args .f) (s .args .format .now) (l .loop .i)) (drop (l .loop .at) (s .args .values .now))
-judged c = rw (c .before .spot-at .ensures) at (c .allowed-spot .ensures)
+judged : (c : tie.After-allowed-span Inv-loop μ-loop) → let l = c .before .before .before in let s = entry l in
+    c .allowed-span .result ≡ span-allowed (turn-span (s .args .f) (s .args .format .now) (l .loop .i)) (drop (l .loop .at) (s .args .values .now))
+judged c = rw (c .before .span-at .ensures) at (c .allowed-span .ensures)
 
 needed-within-requires : tie.Need-needed-within-requires Inv-loop μ-loop
 needed-within-requires c κs = search needs
@@ -64,11 +64,11 @@ returns c =
 loop-holds : tie.Need-loop-holds Inv-loop μ-loop
 loop-holds c = (omega arith, refl)
 
-spot-at-requires : tie.Need-spot-at-requires Inv-loop μ-loop
-spot-at-requires c κs = search needs
+span-at-requires : tie.Need-span-at-requires Inv-loop μ-loop
+span-at-requires c κs = search needs
 
-allowed-spot-requires : tie.Need-allowed-spot-requires Inv-loop μ-loop
-allowed-spot-requires c κs = value-here c
+allowed-span-requires : tie.Need-allowed-span-requires Inv-loop μ-loop
+allowed-span-requires c κs = value-here c
 
 returns-2 : tie.Need-returns-2 Inv-loop μ-loop
 unfolding values-allowed
@@ -99,7 +99,7 @@ loop-again c =
     let f = s .args .f in
     let format = s .args .format .now in
     let values = s .args .values .now in
-    let long : o .spot-at .result .length ≡ turn-spot f format (l .loop .i) .length = ap (λ (p : Spot). p .length) (o .spot-at .ensures) in
+    let long : o .span-at .result .length ≡ turn-span f format (l .loop .i) .length = ap (λ (p : Span). p .length) (o .span-at .ensures) in
     let yes = sym (judged (c .before .before)) ∙ not-false _ (c .before .if1 .left) in
     let turn = rw yes at (allowed-turn f format (l .loop .i) values (l .loop .at)) in
     (omega (arith, needed-turn f format (l .loop .i), long, l .loop .inv .0), rw long (l .loop .inv .1 ∙ turn))
@@ -125,8 +125,8 @@ values-allowed-spec =
     enum-told-2
     returns
     loop-holds
-    spot-at-requires
-    allowed-spot-requires
+    span-at-requires
+    allowed-span-requires
     returns-2
     add-at
     add-i

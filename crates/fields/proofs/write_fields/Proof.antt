@@ -12,9 +12,9 @@ use Rattle.elements.specs.Laws.{needed-fits, needed-too-long}
 use Rattle.lists.specs.Tests.{and-false}
 use Rattle.layout.specs.Layout.{record-length}
 use Rattle.definition.proofs.Known.{file-known}
-use Rattle.fields.specs.Fields.{spot-written, write-in, fits, write-fields}
-use Rattle.fields.specs.Steps.{turn-spot, turn-inside, needed-turn, write-turn}
-use Rattle.fields.specs.declared.Spot.{Spot}
+use Rattle.fields.specs.Fields.{span-written, write-in, fits, write-fields}
+use Rattle.fields.specs.Steps.{turn-span, turn-inside, needed-turn, write-turn}
+use Rattle.fields.specs.declared.Span.{Span}
 use borrow.Author.Needs.{needs}
 use Rattle.fields.proofs.write_fields.Statement.{statement}
 use Rattle.fields.proofs.write_fields.Tie as tie
@@ -37,16 +37,16 @@ has-room c =
     let h = needed-fits (s .args .f) (s .args .format .now) (length (s .args .values .now)) _ (sym (n .needed-within .ensures) ∙ c .before .before .enum-told .given .1) in
     (omega (arith, h .0, h .1), omega (arith, c .before .record-length .ensures, c .if1 .left))
 
--- the spot of the element lies in the record, and its value in the record buffer
-spot-fits : (c : tie.After-spot-at Inv-loop μ-loop) → let l = c .before .before in let s = entry (l .before) in
-    (c .spot-at .result .start + c .spot-at .result .length ≤ length (l .loop .content)) × (l .loop .at + c .spot-at .result .length ≤ length (s .args .values .now))
-spot-fits c =
+-- the span of the element lies in the record, and its value in the record buffer
+span-fits : (c : tie.After-span-at Inv-loop μ-loop) → let l = c .before .before in let s = entry (l .before) in
+    (c .span-at .result .start + c .span-at .result .length ≤ length (l .loop .content)) × (l .loop .at + c .span-at .result .length ≤ length (s .args .values .now))
+span-fits c =
     let l = c .before .before in
     let s = entry (l .before) in
     let f = s .args .f in
     let format = s .args .format .now in
     let fits = has-room (l .before) in
-    rw (c .spot-at .ensures)
+    rw (c .span-at .ensures)
     (omega (arith, fits .1, l .loop .inv .1, turn-inside f format (l .loop .i) (file-known _ _ (s .good .0))), omega (arith, fits .0, l .loop .inv .0, l .loop .inv .1, needed-turn f format (l .loop .i)))
 
 needed-within-requires : tie.Need-needed-within-requires Inv-loop μ-loop
@@ -81,14 +81,14 @@ returns-2 c =
 loop-holds : tie.Need-loop-holds Inv-loop μ-loop
 loop-holds c = (omega arith, refl, refl)
 
-spot-at-requires : tie.Need-spot-at-requires Inv-loop μ-loop
-spot-at-requires c κs = search needs
+span-at-requires : tie.Need-span-at-requires Inv-loop μ-loop
+span-at-requires c κs = search needs
 
-write-spot-requires : tie.Need-write-spot-requires Inv-loop μ-loop
-write-spot-requires c κs = spot-fits (c .before)
+write-span-requires : tie.Need-write-span-requires Inv-loop μ-loop
+write-span-requires c κs = span-fits (c .before)
 
 add-at : tie.Need-add-at Inv-loop μ-loop
-add-at c = omega (arith, spot-fits (c .before .before .before .before .before) .1)
+add-at c = omega (arith, span-fits (c .before .before .before .before .before) .1)
 
 add-i : tie.Need-add-i Inv-loop μ-loop
 add-i c = omega arith
@@ -106,12 +106,12 @@ loop-again c =
     let format = s .args .format .now in
     let i = l .loop .i in
     let at = l .loop .at in
-    let x = turn-spot f format i in
+    let x = turn-span f format i in
     let values = s .args .values .now in
-    let long : o .spot-at .result .length ≡ x .length = ap (λ (p : Spot). p .length) (o .spot-at .ensures) in
-    let now : r .write-spot .last .1 .1 .0 ≡ spot-written x (drop at values) (l .loop .content) = rw (o .spot-at .ensures) at (r .write-spot .ensures) in
+    let long : o .span-at .result .length ≡ x .length = ap (λ (p : Span). p .length) (o .span-at .ensures) in
+    let now : r .write-span .last .1 .1 .0 ≡ span-written x (drop at values) (l .loop .content) = rw (o .span-at .ensures) at (r .write-span .ensures) in
     let turn = write-turn f format i values at (l .loop .content) in
-    (omega (arith, needed-turn f format i, long, l .loop .inv .0), omega (arith, r .write-spot .kept .1 .1 .0, l .loop .inv .1), rw (now, long) (sym turn ∙ l .loop .inv .2))
+    (omega (arith, needed-turn f format i, long, l .loop .inv .0), omega (arith, r .write-span .kept .1 .1 .0, l .loop .inv .1), rw (now, long) (sym turn ∙ l .loop .inv .2))
 
 same-length : tie.Need-same-length Inv-loop μ-loop
 same-length c = c .before .loop .inv .1
@@ -140,8 +140,8 @@ write-fields-spec =
     record-length-requires
     returns-2
     loop-holds
-    spot-at-requires
-    write-spot-requires
+    span-at-requires
+    write-span-requires
     add-at
     add-i
     loop-less

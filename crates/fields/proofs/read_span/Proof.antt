@@ -1,14 +1,14 @@
--- `read_spot` meets its contract.
+-- `read_span` meets its contract.
 -- Assumes nothing.
 use native.Mathlib.Omega.{arith}
 use mathlib.Core.Path.{_≡_, sym, _∙_}
 use lib.ListN.{length}
 use Rattle.lists.specs.Parts.{part-take, length-piece, length-part, patched-sets}
 use Rattle.slices.specs.Laws.{copied-whole}
-use Rattle.fields.specs.Fields.{spot-bytes}
+use Rattle.fields.specs.Fields.{span-bytes}
 use borrow.Author.Needs.{needs}
-use Rattle.fields.proofs.read_spot.Statement.{statement}
-use Rattle.fields.proofs.read_spot.Tie as tie
+use Rattle.fields.proofs.read_span.Statement.{statement}
+use Rattle.fields.proofs.read_span.Tie as tie
 
 add-copy : tie.Need-add-copy
 add-copy c = search needs
@@ -50,11 +50,11 @@ returns c =
     let content = a .content .now in
     let buffer = a .buffer .now in
     let both = length-part start n content (s .pre .0) ∙ sym (length-part (a .at) n buffer (s .pre .1)) in
-    let copied : o .copy .last .1 .0 ≡ spot-bytes (a .s) content = o .copy .ensures ∙ copied-whole _ _ both ∙ part-take start n content in
-    rw copied (patched-sets (a .at) n buffer (s .pre .1) (spot-bytes (a .s) content) (length-piece start n content (s .pre .0)))
+    let copied : o .copy .last .1 .0 ≡ span-bytes (a .s) content = o .copy .ensures ∙ copied-whole _ _ both ∙ part-take start n content in
+    rw copied (patched-sets (a .at) n buffer (s .pre .1) (span-bytes (a .s) content) (length-piece start n content (s .pre .0)))
 
-pub read-spot-spec : {M : Type 1} → statement M
-read-spot-spec =
+pub read-span-spec : {M : Type 1} → statement M
+read-span-spec =
     tie.close
     (tie.spec
     add-copy

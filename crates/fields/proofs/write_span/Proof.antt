@@ -1,4 +1,4 @@
--- `write_spot` meets its contract.
+-- `write_span` meets its contract.
 -- Assumes nothing.
 use mathlib.Core.Path.{_≡_, sym, ap, _∙_}
 use lib.ListN.{length, take, drop}
@@ -7,8 +7,8 @@ use Rattle.values.specs.Values.{stored}
 use Rattle.values.specs.Laws.{stored-length}
 use Rattle.lists.specs.Parts.{part, part-take, length-piece, length-part, patched-sets}
 use borrow.Author.Needs.{needs}
-use Rattle.fields.proofs.write_spot.Statement.{statement}
-use Rattle.fields.proofs.write_spot.Tie as tie
+use Rattle.fields.proofs.write_span.Statement.{statement}
+use Rattle.fields.proofs.write_span.Tie as tie
 
 add-put-stored : tie.Need-add-put-stored
 add-put-stored c = search needs
@@ -56,8 +56,8 @@ returns c =
     let given : o .put-stored .last .1 .1 .0 ≡ stored kind value = form ∙ ap (stored kind) (part-take (a .at) n values) in
     rw given (patched-sets start n content (s .pre .0) (stored kind value) (stored-length kind value ∙ length-piece (a .at) n values (s .pre .1)))
 
-pub write-spot-spec : {M : Type 1} → statement M
-write-spot-spec =
+pub write-span-spec : {M : Type 1} → statement M
+write-span-spec =
     tie.close
     (tie.spec
     add-put-stored

@@ -1,11 +1,11 @@
--- `allowed_spot` meets its contract.
+-- `allowed_span` meets its contract.
 -- Assumes nothing.
 use mathlib.Core.Path.{ap, _∙_}
 use Rattle.values.specs.Values.{allowed}
 use Rattle.lists.specs.Parts.{part-take}
 use borrow.Author.Needs.{needs}
-use Rattle.fields.proofs.allowed_spot.Statement.{statement}
-use Rattle.fields.proofs.allowed_spot.Tie as tie
+use Rattle.fields.proofs.allowed_span.Statement.{statement}
+use Rattle.fields.proofs.allowed_span.Tie as tie
 
 add-allowed : tie.Need-add-allowed
 add-allowed c = search needs
@@ -27,7 +27,7 @@ returns c =
     let a = c .before .before .before .args in
     c .allowed .ensures ∙ ap (allowed (a .s .format)) (part-take (a .at) (a .s .length) (a .values .now))
 
-pub allowed-spot-spec : {M : Type 1} → statement M
-allowed-spot-spec =
+pub allowed-span-spec : {M : Type 1} → statement M
+allowed-span-spec =
     tie.close
     (tie.spec add-allowed sub-allowed part-allowed-start part-allowed-end allowed-requires returns)

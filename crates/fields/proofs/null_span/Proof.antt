@@ -1,12 +1,12 @@
--- `null_spot` meets its contract.
+-- `null_span` meets its contract.
 -- Assumes nothing.
 use mathlib.Core.Path.{_≡_, ap, _∙_}
 use Rattle.values.specs.Values.{null-value}
 use Rattle.values.specs.Laws.{null-length}
 use Rattle.lists.specs.Parts.{length-part, patched-sets}
 use borrow.Author.Needs.{needs}
-use Rattle.fields.proofs.null_spot.Statement.{statement}
-use Rattle.fields.proofs.null_spot.Tie as tie
+use Rattle.fields.proofs.null_span.Statement.{statement}
+use Rattle.fields.proofs.null_span.Tie as tie
 
 add-put-null : tie.Need-add-put-null
 add-put-null c = search needs
@@ -37,8 +37,8 @@ returns c =
     let null : o .put-null .last .1 .0 ≡ null-value kind n = o .put-null .ensures ∙ ap (null-value kind) (length-part start n (a .content .now) (s .pre)) in
     rw null (patched-sets start n (a .content .now) (s .pre) (null-value kind n) (null-length kind n))
 
-pub null-spot-spec : {M : Type 1} → statement M
-null-spot-spec =
+pub null-span-spec : {M : Type 1} → statement M
+null-span-spec =
     tie.close
     (tie.spec
     add-put-null

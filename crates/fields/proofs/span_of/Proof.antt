@@ -1,8 +1,8 @@
--- `spot_of` meets its contract.
+-- `span_of` meets its contract.
 -- Assumes nothing.
 use borrow.Author.Needs.{needs}
-use Rattle.fields.proofs.spot_of.Statement.{statement}
-use Rattle.fields.proofs.spot_of.Tie as tie
+use Rattle.fields.proofs.span_of.Statement.{statement}
+use Rattle.fields.proofs.span_of.Tie as tie
 
 enum-known-found : tie.Need-enum-known-found
 enum-known-found c = search needs
@@ -27,8 +27,8 @@ returns-2 c =
     let o = c .before in
     rw (o .before .before .before .found .given .1, o .before .field-at .ensures, o .field-offset .ensures)
 
-pub spot-of-spec : {M : Type 1} → statement M
-spot-of-spec =
+pub span-of-spec : {M : Type 1} → statement M
+span-of-spec =
     tie.close
     (tie.spec
     enum-known-found
