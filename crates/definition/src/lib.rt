@@ -2,7 +2,7 @@
 // A definition is a value of fixed size. Of each array only the first `count` places are in use; what the others hold means nothing.
 
 ghost use mathlib.Core.Path.{_≡_};
-ghost use Rattle.definition.specs.Table.{no-field, no-file, no-definition, field-count, file-count, same-name};
+ghost use Rattle.definition.specs.Table.{no-field, no-file, no-definition, field-at, field-count, file-count, same-name};
 
 // Places for files in a definition, and for fields in a file.
 pub const MAX_FILES: usize = 16;
@@ -96,6 +96,16 @@ pub fn no_definition() -> Definition
 {
     let files = [no_file(); MAX_FILES];
     Definition { count: 0, files }
+}
+
+// The place k of a file, used or not; an empty one where there is no such place.
+pub fn field_at(f: File, k: usize) -> Field
+    ensures { λ r. ⌜ r ≡ field-at f k ⌝ }
+{
+    if MAX_FIELDS <= k {
+        return no_field();
+    }
+    f.fields[k]
 }
 
 // The fields in use. A count past the places counts as all of them.

@@ -2,9 +2,6 @@
 // two bytes and the byte after it, so elements begin at the indices 0, 3, 6, .. Any bytes may come in, and a field may be named any number of
 // times: nothing here grows with the buffer.
 ghost use mathlib.Core.Path.{_≡_};
-ghost use Prim.Native.Nat.{ℕ, _<_};
-ghost use Rattle.definition.specs.Table.{field-count};
-ghost use Rattle.layout.specs.declared.Found.the-variants.{At};
 ghost use Rattle.elements.specs.Elements.{form, field-named, format-valid, element, named-twice, length-of, needed-within};
 use definition::File;
 use definition::MAX_FIELDS;
@@ -25,13 +22,13 @@ pub enum Needed {
 }
 
 // The place of the field with the name, among those in use.
-pub fn field_named(f: File, name: Name) -> Found
+fn field_named(f: File, name: Name) -> Found
     ensures { λ r. ⌜ r ≡ field-named f name ⌝ }
 {
     let n = definition::field_count(f);
     let mut i = 0;
     while i < n {
-        let g = f.fields[i];
+        let g = definition::field_at(f, i);
         if definition::same_name(g.name, name) {
             return Found::At(i);
         }
@@ -117,14 +114,12 @@ pub fn named_twice(f: File, format: &[u8]) -> bool
 
 // The length of the field at a place that was found; 0 where none was.
 fn length_of(f: File, found: Found) -> usize
-    requires { ⌜ ((k : ℕ) → found ≡ At k → k < field-count f) ⌝ }
     ensures { λ r. ⌜ r ≡ length-of f found ⌝ }
 {
     let Found::At(k) = found else {
         return 0;
     };
-    let g = f.fields[k];
-    g.length as usize
+    layout::field_length(f, k)
 }
 
 // The bytes that the values of the named fields take, one after another, where they fit into the room. The sum never passes the room, so it

@@ -1,18 +1,20 @@
 -- Values between a record and a record buffer, by the names of a format buffer (document 01: "The record buffer has the values one after
 -- another"). A place is a field's place in its file.
-use Prim.Native.Nat.{ℕ, _<_}
+use Prim.Native.Nat.{ℕ}
 use mathlib.Core.Bool.{Bool, true, _&&_}
 use mathlib.Core.List.{List, [], _∷_, _++_}
 use lib.Dec.{leb}
 use lib.ListN.{length, take, drop}
 use lib.Seq.{sets}
 use Rattle.lists.specs.Tests.{cond}
-use Rattle.definition.specs.Table.{field-at, field-count, fields-of}
+use Rattle.definition.specs.Table.{field-at, fields-of}
 use Rattle.layout.specs.Layout.{field-length, field-offset, record-length}
 use Rattle.values.specs.Values.{allowed, stored, null-value}
 use Rattle.elements.specs.Elements.{places, length-needed}
 use Rattle.layout.specs.declared.Found.{Found}
 use Rattle.layout.specs.declared.Found.the-variants.{At, Nowhere}
+use Rattle.fields.specs.declared.Span.{Span}
+use Rattle.definition.specs.declared.Format.the-variants.{Alphanumeric}
 use Rattle.definition.specs.declared.Field.{Field}
 use Rattle.definition.specs.declared.File.{File}
 
@@ -27,22 +29,20 @@ front-value f k values = take (field-length (field-at f k)) values
 abbrev pub behind : File → ℕ → List ℕ → List ℕ
 behind f k values = drop (field-length (field-at f k)) values
 
--- ---- what was found at an element of the format buffer: a field, or nothing
-abbrev pub Within : File → Found → Type 0
-Within f (At k) = k < field-count f
-Within f Nowhere = Unit {0}
+-- ---- where a field that was found lies in its record, and what lies there; no bytes, at the front, where none was found
+abbrev pub span-of : File → Found → Span
+span-of f (At k) = record { start = field-offset f k; length = field-length (field-at f k); format = field-at f k .format }
+span-of f Nowhere = record { start = 0; length = 0; format = Alphanumeric }
 
-abbrev pub found-bytes : File → Found → List ℕ → List ℕ
-found-bytes f (At k) content = field-bytes f k content
-found-bytes f Nowhere content = []
+abbrev pub span-bytes : Span → List ℕ → List ℕ
+span-bytes s content = take (s .length) (drop (s .start) content)
 
-abbrev pub found-written : File → Found → List ℕ → List ℕ → List ℕ
-found-written f (At k) values content = sets content (field-offset f k) (stored (field-at f k .format) (front-value f k values))
-found-written f Nowhere values content = content
+-- the value at the front of some values, put there
+abbrev pub span-written : Span → List ℕ → List ℕ → List ℕ
+span-written s values content = sets content (s .start) (stored (s .format) (take (s .length) values))
 
-abbrev pub found-allowed : File → Found → List ℕ → Bool
-found-allowed f (At k) values = allowed (field-at f k .format) (front-value f k values)
-found-allowed f Nowhere values = true
+abbrev pub span-allowed : Span → List ℕ → Bool
+span-allowed s values = allowed (s .format) (take (s .length) values)
 
 -- ---- reading
 -- the bytes of the fields at some places of a record, one after another

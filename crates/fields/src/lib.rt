@@ -5,94 +5,101 @@ ghost use Prim.Native.Nat.{_+_, _≤_};
 ghost use lib.ListN.{length, drop};
 ghost use lib.Seq.{sets};
 ghost use Rattle.lists.specs.Tests.{cond};
-ghost use Rattle.layout.specs.Layout.{record-length};
-ghost use Rattle.elements.specs.Elements.{length-of, length-needed};
-ghost use Rattle.fields.specs.Fields.{Within, found-bytes, found-written, found-allowed, fits, read-fields, write-fields, values-allowed, null-record};
+ghost use Rattle.values.specs.Values.{null-value};
+ghost use Rattle.elements.specs.Elements.{element, length-needed};
+ghost use Rattle.fields.specs.Fields.{span-of, span-bytes, span-written, span-allowed, fits, read-fields, write-fields, values-allowed, null-record};
 use definition::File;
+use definition::Format;
 use elements::ELEMENT;
 use elements::Needed;
 use layout::Found;
 
-fn copy(from: &[u8], to: &mut [u8])
-    requires { ⌜ length (now from) ≡ length (now to) ⌝ }
-    ensures { λ _. ⌜ now (to .exit) ≡ now (from .entry) ⌝ }
+// Where a field lies in its record, and what lies there.
+struct Span {
+    start: usize,
+    length: usize,
+    format: Format,
+}
+
+// The span of a field that was found. No bytes, at the front, where none was: reading and writing them does nothing.
+fn span_of(f: File, found: Found) -> Span
+    ensures { λ r. ⌜ r ≡ span-of f found ⌝ }
 {
-    let mut i = 0;
-    while i < from.len() {
-        to[i] = from[i];
-        i += 1;
+    let Found::At(k) = found else {
+        return Span {
+            start: 0,
+            length: 0,
+            format: Format::Alphanumeric,
+        };
+    };
+    let g = definition::field_at(f, k);
+    let start = layout::field_offset(f, k);
+    let length = g.length as usize;
+    let format = g.format;
+    Span {
+        start,
+        length,
+        format,
     }
 }
 
-// Copies a field that was found, if any, into the buffer at a place; answers the place after it.
-fn read_found(f: File, found: Found, content: &[u8], buffer: &mut [u8], at: usize) -> usize
-    requires { ⌜ Within f found ⌝ }
-    requires { ⌜ record-length f ≤ length (now content) ⌝ }
-    requires { ⌜ at + length-of f found ≤ length (now buffer) ⌝ }
-    ensures { λ r. ⌜ r ≡ at + length-of f found ⌝ }
-    ensures { λ _. ⌜ now (buffer .exit) ≡ sets (now (buffer .entry)) at (found-bytes f found (now (content .entry))) ⌝ }
+// The span of the field that the element at a byte of the format buffer names.
+fn span_at(f: File, format: &[u8], i: usize) -> Span
+    ensures { λ r. ⌜ r ≡ span-of f (element f (now (format .entry)) i) ⌝ }
 {
-    let Found::At(k) = found else {
-        return at;
-    };
-    let g = f.fields[k];
-    let length = g.length as usize;
-    let start = layout::field_offset(f, k);
-    copy(
+    let found = elements::element(f, format, i);
+    span_of(f, found)
+}
+
+// Copies the bytes of a span into the buffer at a place.
+fn read_span(s: Span, content: &[u8], buffer: &mut [u8], at: usize)
+    requires { ⌜ s .start + s .length ≤ length (now content) ⌝ }
+    requires { ⌜ at + s .length ≤ length (now buffer) ⌝ }
+    ensures { λ _. ⌜ now (buffer .exit) ≡ sets (now (buffer .entry)) at (span-bytes s (now (content .entry))) ⌝ }
+{
+    let start = s.start;
+    let length = s.length;
+    slices::copy(
         &content[start..start + length],
         &mut buffer[at..at + length],
     );
-    at + length
 }
 
-// Puts the value at a place, in stored form, into the field that was found, if any; answers the place after the value.
-fn write_found(f: File, found: Found, values: &[u8], content: &mut [u8], at: usize) -> usize
-    requires { ⌜ Within f found ⌝ }
-    requires { ⌜ record-length f ≤ length (now content) ⌝ }
-    requires { ⌜ at + length-of f found ≤ length (now values) ⌝ }
-    ensures { λ r. ⌜ r ≡ at + length-of f found ⌝ }
-    ensures { λ _. ⌜ now (content .exit) ≡ found-written f found (drop at (now (values .entry))) (now (content .entry)) ⌝ }
+// Puts the value at a place, in stored form, into a span.
+fn write_span(s: Span, values: &[u8], content: &mut [u8], at: usize)
+    requires { ⌜ s .start + s .length ≤ length (now content) ⌝ }
+    requires { ⌜ at + s .length ≤ length (now values) ⌝ }
+    ensures { λ _. ⌜ now (content .exit) ≡ span-written s (drop at (now (values .entry))) (now (content .entry)) ⌝ }
 {
-    let Found::At(k) = found else {
-        return at;
-    };
-    let g = f.fields[k];
-    let length = g.length as usize;
-    let kind = g.format;
-    let start = layout::field_offset(f, k);
+    let start = s.start;
+    let length = s.length;
+    let kind = s.format;
     values::put_stored(
         kind,
         &values[at..at + length],
         &mut content[start..start + length],
     );
-    at + length
 }
 
-// Whether the value at a place is allowed in the field that was found, if any.
-fn allowed_found(f: File, found: Found, values: &[u8], at: usize) -> bool
-    requires { ⌜ Within f found ⌝ }
-    requires { ⌜ at + length-of f found ≤ length (now values) ⌝ }
-    ensures { λ r. ⌜ r ≡ found-allowed f found (drop at (now (values .entry))) ⌝ }
+// Whether the value at a place is allowed in a span.
+fn allowed_span(s: Span, values: &[u8], at: usize) -> bool
+    requires { ⌜ at + s .length ≤ length (now values) ⌝ }
+    ensures { λ r. ⌜ r ≡ span-allowed s (drop at (now (values .entry))) ⌝ }
 {
-    let Found::At(k) = found else {
-        return true;
-    };
-    let g = f.fields[k];
-    let length = g.length as usize;
-    let kind = g.format;
+    let length = s.length;
+    let kind = s.format;
     values::allowed(kind, &values[at..at + length])
 }
 
-// The length of the field that was found; 0 where none was.
-fn length_of(f: File, found: Found) -> usize
-    requires { ⌜ Within f found ⌝ }
-    ensures { λ r. ⌜ r ≡ length-of f found ⌝ }
+// Puts the null value of its format into a span.
+fn null_span(s: Span, content: &mut [u8])
+    requires { ⌜ s .start + s .length ≤ length (now content) ⌝ }
+    ensures { λ _. ⌜ now (content .exit) ≡ sets (now (content .entry)) (s .start) (null-value (s .format) (s .length)) ⌝ }
 {
-    let Found::At(k) = found else {
-        return 0;
-    };
-    let g = f.fields[k];
-    g.length as usize
+    let start = s.start;
+    let length = s.length;
+    let kind = s.format;
+    values::put_null(kind, &mut content[start..start + length]);
 }
 
 // Writes the named fields of the record at the front of the record buffer and answers how many bytes those are; writes nothing where the
@@ -111,8 +118,9 @@ pub fn read_fields(f: File, format: &[u8], content: &[u8], buffer: &mut [u8]) ->
     let mut i = 0;
     let mut at = 0;
     while i < format.len() {
-        let found = elements::element(f, format, i);
-        at = read_found(f, found, content, buffer, at);
+        let s = span_at(f, format, i);
+        read_span(s, content, buffer, at);
+        at += s.length;
         i += ELEMENT;
     }
     at
@@ -133,8 +141,9 @@ pub fn write_fields(f: File, format: &[u8], values: &[u8], content: &mut [u8])
     let mut i = 0;
     let mut at = 0;
     while i < format.len() {
-        let found = elements::element(f, format, i);
-        at = write_found(f, found, values, content, at);
+        let s = span_at(f, format, i);
+        write_span(s, values, content, at);
+        at += s.length;
         i += ELEMENT;
     }
 }
@@ -150,11 +159,11 @@ pub fn values_allowed(f: File, format: &[u8], values: &[u8]) -> bool
     let mut i = 0;
     let mut at = 0;
     while i < format.len() {
-        let found = elements::element(f, format, i);
-        if !allowed_found(f, found, values, at) {
+        let s = span_at(f, format, i);
+        if !allowed_span(s, values, at) {
             return false;
         }
-        at += length_of(f, found);
+        at += s.length;
         i += ELEMENT;
     }
     true
@@ -169,13 +178,9 @@ pub fn put_nulls(f: File, content: &mut [u8])
     }
     let n = definition::field_count(f);
     let mut k = 0;
-    let mut at = 0;
     while k < n {
-        let g = f.fields[k];
-        let length = g.length as usize;
-        let kind = g.format;
-        values::put_null(kind, &mut content[at..at + length]);
-        at += length;
+        let s = span_of(f, Found::At(k));
+        null_span(s, content);
         k += 1;
     }
 }

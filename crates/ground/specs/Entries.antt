@@ -21,7 +21,7 @@ use Rattle.entries.specs.Laws.{Shape}
 use Rattle.queue.specs.Laws.{is-held, entries-append}
 use Rattle.entries.specs.declared.Entry.{Entry}
 use Rattle.queue.specs.declared.Lookup.the-variants.{Held, Free}
-use Rattle.images.specs.Lists.{sift as sift-holds}
+use Rattle.lists.specs.Sift.{sift as sift-holds}
 use Rattle.images.specs.Images.{stays, fits, remove-queue, remove-images, remove-count, hold-of, with-images}
 use Rattle.images.specs.Laws.{with-images-append, with-images-remove}
 use Rattle.images.specs.declared.Removal.{Removal}

@@ -18,7 +18,7 @@ use Rattle.layout.specs.Layout.{file-size, store-size, place}
 use Rattle.layout.specs.Laws.{place-found}
 use Rattle.layout.specs.declared.Found.{Found}
 use Rattle.layout.specs.declared.Found.the-variants.{At, Nowhere}
-use Rattle.store.specs.Lists.{numbers, each-number}
+use Rattle.lists.specs.Numbers.{numbers, each-number}
 use Rattle.store.specs.Store.{get as get-record, fresh, file-part}
 use Rattle.store.specs.Laws.{fresh-length, get-fresh}
 use Rattle.store.specs.Files.{file-part-length, with-part-length, part-same, part-other, part-past}

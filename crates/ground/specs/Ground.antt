@@ -15,7 +15,7 @@ use Rattle.definition.specs.declared.FieldOption.the-variants.{Plain, Descripto
 use Rattle.definition.specs.declared.File.{File}
 use Rattle.definition.specs.declared.Definition.{Definition}
 use Rattle.validity.specs.Validity.{valid}
-use Rattle.store.specs.Lists.{numbers}
+use Rattle.lists.specs.Numbers.{numbers}
 use Rattle.store.specs.Store.{field-value}
 use Rattle.transactions.specs.Slots.{Bytes, Slot}
 use Rattle.transactions.specs.Machine.{Ground, Laws, Machine}

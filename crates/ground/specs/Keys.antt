@@ -22,7 +22,7 @@ use Rattle.layout.specs.declared.Found.{Found}
 use Rattle.layout.specs.declared.Found.the-variants.{At, Nowhere}
 use Rattle.validity.specs.Validity.{valid}
 use Rattle.validity.specs.Laws.{valid-at, place-own}
-use Rattle.store.specs.Lists.{from-to}
+use Rattle.lists.specs.Numbers.{from-to}
 use Rattle.ground.specs.Lists.{both-ways, any-front, any-behind, in-numbers, all-numbers, all-over, elem-map}
 
 -- the numbers that an ISN of two bytes has

@@ -10,8 +10,9 @@ use borrow.Author.Tests.{eqb-true, eqb-false, eq-eqb, not-true}
 use Rattle.lists.specs.Tests.{not-both, Outcome, holds, fails, outcome, and-left, and-right, or-left, or-right, or-true, and-false, eqbs}
 use Rattle.lists.specs.Folds.{all, any, distinct, Each}
 use Rattle.lists.specs.Sift.{keep, sift}
-use Rattle.store.specs.Lists.{numbers}
-use Rattle.images.specs.Lists.{same, sift as sift-images}
+use Rattle.lists.specs.Numbers.{numbers}
+use Rattle.images.specs.Lists.{same}
+use Rattle.lists.specs.Sift.{sift as sift-images}
 
 -- two tests that hold together
 pub both-ways : (a b : Bool) → (a ≡ true → b ≡ true) → (b ≡ true → a ≡ true) → a ≡ b

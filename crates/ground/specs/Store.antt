@@ -12,7 +12,7 @@ use Rattle.definition.specs.declared.Definition.{Definition}
 use Rattle.layout.specs.Layout.{record-length, store-size, place}
 use Rattle.layout.specs.declared.Found.{Found}
 use Rattle.layout.specs.declared.Found.the-variants.{At, Nowhere}
-use Rattle.store.specs.Lists.{numbers}
+use Rattle.lists.specs.Numbers.{numbers}
 use Rattle.store.specs.Store.{get as get-record, put-record, empty, fresh, file-part, with-part}
 use Rattle.transactions.specs.Slots.{Slot}
 use Rattle.ground.specs.Keys.{key-file, key-isn, known-at}

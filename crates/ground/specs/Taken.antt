@@ -21,7 +21,7 @@ use Rattle.layout.specs.Layout.{field-offset, record-length, store-size, image-
 use Rattle.validity.specs.Validity.{valid}
 use Rattle.validity.specs.Laws.{valid-at}
 use Rattle.entries.specs.Entries.{entries}
-use Rattle.store.specs.Lists.{any-agree, any-true}
+use Rattle.lists.specs.Folds.{any-agree, any-true}
 use Rattle.store.specs.Store.{get as get-record, field-value, elsewhere, file-part}
 use Rattle.store.specs.Laws.{some-has, has-fits, fits-least, fits-most}
 use Rattle.store.specs.Finding.{Elsewhere, elsewhere-true, elsewhere-false}

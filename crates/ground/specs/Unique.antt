@@ -19,7 +19,9 @@ use Rattle.layout.specs.Layout.{field-length, field-offset, record-length, imag
 use Rattle.layout.specs.Laws.{field-within}
 use Rattle.entries.specs.Entries.{entries}
 use Rattle.entries.specs.declared.Entry.{Entry}
-use Rattle.store.specs.Lists.{numbers, each-number, piece-piece, length-piece}
+use Rattle.lists.specs.Numbers.{numbers, each-number}
+use Rattle.lists.specs.Pieces.{piece-piece}
+use Rattle.lists.specs.Parts.{length-piece}
 use Rattle.store.specs.Store.{field-value}
 use Rattle.images.specs.Images.{has-at, image-has}
 use Rattle.transactions.specs.Slots.{Slot}

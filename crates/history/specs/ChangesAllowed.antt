@@ -18,7 +18,8 @@ use Rattle.layout.specs.Layout.{record-length}
 use Rattle.layout.specs.Laws.{place-found}
 use Rattle.validity.specs.Validity.{valid}
 use Rattle.elements.specs.Elements.{places}
-use Rattle.store.specs.Lists.{numbers, any-agree}
+use Rattle.lists.specs.Numbers.{numbers}
+use Rattle.lists.specs.Folds.{any-agree}
 use Rattle.store.specs.Store.{field-value}
 use Rattle.transactions.specs.Machine as machine
 use Rattle.ground.specs.Keys.{key, key-file, key-isn, Known, file-of-key, isn-of-key}

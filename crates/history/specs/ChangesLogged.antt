@@ -21,7 +21,7 @@ use Rattle.values.specs.Values.{null-value}
 use Rattle.values.specs.Laws.{null-length}
 use Rattle.fields.specs.Fields.{write-fields, nulls, null-record}
 use Rattle.fields.specs.Laws.{write-fields-length, null-record-length}
-use Rattle.store.specs.Lists.{length-piece}
+use Rattle.lists.specs.Parts.{length-piece}
 use Rattle.store.specs.Store.{record-of, file-part}
 use Rattle.store.specs.Laws.{fits-whole}
 use Rattle.store.specs.Slots.{slot-inside}

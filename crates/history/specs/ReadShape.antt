@@ -20,7 +20,7 @@ use Rattle.definition.specs.declared.Format.the-variants.{Alphanumeric, Binary,
 use Rattle.definition.specs.declared.Field.{Field}
 use Rattle.definition.specs.declared.File.{File}
 use Rattle.definition.specs.declared.Definition.{Definition}
-use Rattle.values.specs.Lists.{each-replicate, each-set}
+use Rattle.lists.specs.Folds.{each-replicate, each-set}
 use Rattle.validity.specs.Validity.{capital, digit, name-valid, field-valid, file-valid, valid}
 use Rattle.validity.specs.Laws.{valid-file}
 use Rattle.reading.specs.Grammar.{item-of, room-for-file, add-file, last-file, room-for-field, with-field, add-field, broken, proceed, read-from, read-table}

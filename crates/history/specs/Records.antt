@@ -22,7 +22,7 @@ use Rattle.layout.specs.Layout.{place}
 use Rattle.layout.specs.Laws.{place-found}
 use Rattle.layout.specs.declared.Found.{Found}
 use Rattle.layout.specs.declared.Found.the-variants.{At, Nowhere}
-use Rattle.store.specs.Lists.{numbers}
+use Rattle.lists.specs.Numbers.{numbers}
 use Rattle.ground.specs.Lists.{in-numbers}
 use Rattle.store.specs.Store as records
 use Rattle.store.specs.Store.{slot-count, file-part, field-value}

@@ -19,7 +19,7 @@ use Rattle.reading.specs.Grammar.{read-table}
 use Rattle.reading.specs.Laws.{read-valid}
 use Rattle.reading.specs.declared.End.{End}
 use Rattle.reading.specs.declared.End.the-variants.{At, Broken}
-use Rattle.store.specs.Lists.{numbers}
+use Rattle.lists.specs.Numbers.{numbers}
 use Rattle.entries.specs.Entries.{entries}
 use Rattle.repeats.specs.Repeats.{repeated}
 use Rattle.transactions.specs.Machine.{begin}

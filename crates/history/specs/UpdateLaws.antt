@@ -24,7 +24,7 @@ use Rattle.values.specs.Values.{null-value}
 use Rattle.values.specs.Laws.{null-length}
 use Rattle.fields.specs.Fields.{write-fields, nulls}
 use Rattle.fields.specs.Laws.{write-fields-length, unnamed-kept}
-use Rattle.store.specs.Lists.{numbers}
+use Rattle.lists.specs.Numbers.{numbers}
 use Rattle.store.specs.Store.{field-value}
 use Rattle.transactions.specs.Slots.{Bytes, Slot}
 use Rattle.ground.specs.Lists.{all-numbers}

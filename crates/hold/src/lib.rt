@@ -1,9 +1,9 @@
 // What becomes of held records: the image that the first change of an entry keeps, and the back-out that puts images back.
 ghost use mathlib.Core.Path.{_≡_};
-ghost use Prim.Native.Nat.{min, _+_, _*_, _≤_};
+ghost use Prim.Native.Nat.{_+_, _*_};
 ghost use lib.Dec.{leb};
-ghost use lib.ListN.{length};
 ghost use Rattle.layout.specs.Layout.{image-length};
+ghost use Rattle.entries.specs.Entries.{unpack-of};
 ghost use Rattle.images.specs.Images.{remove-queue, remove-images, remove-count};
 ghost use Rattle.images.specs.declared.Removal.the-variants.{All};
 ghost use Rattle.hold.specs.Hold.{keep-image, first-change-queue, first-change-images, put-back-in, put-back, put-back-of, restore};
@@ -12,33 +12,6 @@ use definition::File;
 use entries::Entry;
 use images::Removal;
 use layout::Found;
-
-fn least(a: usize, b: usize) -> usize
-    ensures { λ r. ⌜ r ≡ min a b ⌝ }
-{
-    if a < b { a } else { b }
-}
-
-fn copy(from: &[u8], to: &mut [u8])
-    requires { ⌜ length (now from) ≡ length (now to) ⌝ }
-    ensures { λ _. ⌜ now (to .exit) ≡ now (from .entry) ⌝ }
-{
-    let mut i = 0;
-    while i < from.len() {
-        to[i] = from[i];
-        i += 1;
-    }
-}
-
-// Whether `count` blocks of `width` bytes fit into `length` bytes. Their product may not fit a number.
-fn blocks_fit(count: usize, width: usize, length: usize) -> bool
-    ensures { λ r. ⌜ r ≡ leb (count * width) length ⌝ }
-{
-    if width == 0 {
-        return true;
-    }
-    count <= length / width
-}
 
 // Whether the block at a place, of `width` bytes like those before it, ends within `length` bytes.
 fn fits_at(at: usize, width: usize, length: usize) -> bool
@@ -51,7 +24,7 @@ fn fits_at(at: usize, width: usize, length: usize) -> bool
 }
 
 // Keeps a record's bytes as the image of the entry at a place; changes nothing where they do not fit.
-pub fn keep_image(images: &mut [u8], width: usize, at: usize, content: &[u8])
+fn keep_image(images: &mut [u8], width: usize, at: usize, content: &[u8])
     ensures { λ _. ⌜ now (images .exit) ≡ keep-image (now (images .entry)) width at (now (content .entry)) ⌝ }
 {
     let n = content.len();
@@ -62,7 +35,7 @@ pub fn keep_image(images: &mut [u8], width: usize, at: usize, content: &[u8])
         return;
     }
     let start = at * width;
-    copy(content, &mut images[start..start + n]);
+    slices::copy(content, &mut images[start..start + n]);
 }
 
 // What the first change of the entry at a place does to queue and images: the entry is changed from now on, and where there is a record it is
@@ -96,7 +69,7 @@ fn put_back_in(f: File, e: Entry, image: &[u8], part: &mut [u8])
     ensures { λ _. ⌜ now (part .exit) ≡ put-back-in f e (now (image .entry)) (now (part .entry)) ⌝ }
 {
     if e.existed {
-        let n = least(layout::record_length(f), image.len());
+        let n = slices::least(layout::record_length(f), image.len());
         store::put_record(f, part, e.isn, &image[..n]);
         return;
     }
@@ -119,9 +92,11 @@ fn put_back(d: Definition, e: Entry, image: &[u8], store: &mut [u8])
     put_back_in(f, e, image, &mut store[start..end]);
 }
 
-fn put_back_of(d: Definition, user: u8, e: Entry, image: &[u8], store: &mut [u8])
-    ensures { λ _. ⌜ now (store .exit) ≡ put-back-of d user e (now (image .entry)) (now (store .entry)) ⌝ }
+// The same of an entry as it stands in the queue, where it is the user's and changed.
+fn put_back_of(d: Definition, user: u8, word: u64, image: &[u8], store: &mut [u8])
+    ensures { λ _. ⌜ now (store .exit) ≡ put-back-of d user (unpack-of word) (now (image .entry)) (now (store .entry)) ⌝ }
 {
+    let e = entries::unpack(word);
     if e.user != user {
         return;
     }
@@ -131,7 +106,7 @@ fn put_back_of(d: Definition, user: u8, e: Entry, image: &[u8], store: &mut [u8]
 }
 
 // Puts back what a user's changed entries keep, oldest first; changes nothing where there are fewer images than entries.
-pub fn restore(
+fn restore(
     d: Definition,
     width: usize,
     user: u8,
@@ -142,15 +117,14 @@ pub fn restore(
 )
     ensures { λ _. ⌜ now (store .exit) ≡ restore d width user (now (queue .entry)) (now (images .entry)) count (now (store .entry)) ⌝ }
 {
-    if !blocks_fit(count, width, images.len()) {
+    if !slices::blocks_fit(count, width, images.len()) {
         return;
     }
-    let n = least(count, queue.len());
+    let n = slices::least(count, queue.len());
     let mut i = 0;
     while i < n {
-        let e = entries::unpack(queue[i]);
         let start = i * width;
-        put_back_of(d, user, e, &images[start..start + width], store);
+        put_back_of(d, user, queue[i], &images[start..start + width], store);
         i += 1;
     }
 }

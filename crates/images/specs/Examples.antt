@@ -5,8 +5,8 @@ use mathlib.Core.Bool.{Bool, true, false, _&&_}
 use mathlib.Core.List.{List, [], _∷_, map}
 use lib.Dec.{eqb}
 use Rattle.lists.specs.Folds.{all}
+use Rattle.lists.specs.Tests.{eqbs}
 use Rattle.entries.specs.Entries.{pack-of, unpack-of, entries}
-use Rattle.images.specs.Lists.{same}
 use Rattle.images.specs.Closing.{closed}
 use Rattle.images.specs.Images.{remove-queue, remove-images, remove-count, image-has}
 use Rattle.entries.specs.declared.Entry.{Entry}
@@ -47,7 +47,7 @@ rows =
 
 right : Row → Bool
 right r =
-    eqb (remove-count words images (r .count) 2 (r .which)) (r .left) && same (remove-images words images (r .count) 2 (r .which)) (r .after)
+    eqb (remove-count words images (r .count) 2 (r .which)) (r .left) && eqbs (remove-images words images (r .count) 2 (r .which)) (r .after)
 
 rows-right : all right rows ≡ true
 unfolding queue words images rows right pack-of unpack-of entries remove-count remove-images closed

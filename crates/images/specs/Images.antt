@@ -4,10 +4,9 @@ use mathlib.Core.Bool.{Bool, not, _&&_}
 use mathlib.Core.List.{List, [], _∷_, map}
 use lib.Dec.{eqb, leb}
 use lib.ListN.{length, take, drop}
-use Rattle.lists.specs.Tests.{cond}
+use Rattle.lists.specs.Tests.{cond, eqbs}
 use Rattle.lists.specs.Folds.{any}
 use Rattle.entries.specs.Entries.{is-of, entries}
-use Rattle.images.specs.Lists.{same}
 use Rattle.images.specs.Closing.{closed, set-count}
 use Rattle.entries.specs.declared.Entry.{Entry}
 use Rattle.images.specs.declared.Removal.{Removal}
@@ -61,7 +60,7 @@ counts user file e = not (eqb (e .user) user) && (eqb (e .file) file && (e .chan
 
 -- the bytes stand in the list at an offset
 abbrev pub has-at : ℕ → List ℕ → List ℕ → Bool
-has-at offset value image = same (take (length value) (drop offset image)) value
+has-at offset value image = eqbs (take (length value) (drop offset image)) value
 
 abbrev pub taken-by : ℕ → ℕ → ℕ → List ℕ → Hold → Bool
 taken-by user file offset value h = counts user file (h .entry) && has-at offset value (h .image)

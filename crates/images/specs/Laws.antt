@@ -14,7 +14,8 @@ use borrow.Author.Tests.{leb-true}
 use Rattle.lists.specs.Tests.{cond, Outcome, holds, fails, outcome, and-left, and-right}
 use Rattle.entries.specs.Entries.{unpack-of, entries}
 use Rattle.entries.specs.Laws.{length-entries}
-use Rattle.images.specs.Lists.{sift, paste-behind}
+use Rattle.lists.specs.Sift.{sift}
+use Rattle.images.specs.Lists.{paste-behind}
 use Rattle.images.specs.Closing.{set-count, set-count-most, picked, closed-is, closed-front, length-closed}
 use Rattle.images.specs.Images.{stays, staying, fits, remove-queue, remove-images, remove-count, hold-of, with-images}
 use Rattle.entries.specs.declared.Entry.{Entry}

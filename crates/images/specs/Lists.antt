@@ -1,40 +1,14 @@
--- Lists: equality of lists of numbers, the elements that pass a test, lists that are alike from a place on; and their laws.
+-- Lists that are alike from a place on, and a part of a list copied to an earlier place.
 -- Assumes nothing.
-use Prim.Native.Nat.{ℕ, zero, suc, _+_, _-_, _≤_, _<_, min}
+use Prim.Native.Nat.{ℕ, suc, _+_, _-_, _≤_, _<_}
 use native.Mathlib.Omega.{arith}
-use mathlib.Core.Path.{_≡_, refl, sym, ap, _∙_}
-use mathlib.Core.Bool.{Bool, true, false, _&&_}
-use mathlib.Core.List.{List, [], _∷_, _++_, append-assoc}
+use mathlib.Core.Path.{_≡_, sym, _∙_}
+use mathlib.Core.List.{List, _++_, append-assoc}
 use native.Mathlib.Numerals.{add-one}
-use lib.Dec.{eqb}
 use lib.ListN.{length, take, drop, getD, set, length-drop, take-append-drop}
-use lib.Seq.{append-snoc, paste, paste-suc, drop-paste, drop-cons, drop-drop, getD-drop, set-split, take-add, take-length}
-use Rattle.lists.specs.Rest.{take-min}
-use Rattle.lists.specs.Tests.{cond, and-false}
-
--- two lists of numbers are equal
-abbrev pub same : List ℕ → List ℕ → Bool
-same [] [] = true
-same [] (y ∷ ys) = false
-same (x ∷ xs) [] = false
-same (x ∷ xs) (y ∷ ys) = eqb x y && same xs ys
-
-pub same-lengths : (xs ys : List ℕ) → (length xs ≡ length ys → ⊥) → same xs ys ≡ false
-same-lengths [] [] h = absurd (h refl)
-same-lengths [] (y ∷ ys) h = refl
-same-lengths (x ∷ xs) [] h = refl
-same-lengths (x ∷ xs) (y ∷ ys) h = rw (same-lengths xs ys (λ e. h (ap suc e))) (and-false (eqb x y))
-
--- one place further
-pub same-next : (xs ys : List ℕ) (i : ℕ) → i < length xs → i < length ys → same (drop i xs) (drop i ys) ≡ (eqb (getD xs i 0) (getD ys i 0) && same (drop (i + 1) xs) (drop (i + 1) ys))
-same-next xs ys i h k = rw (drop-cons xs i 0 h, drop-cons ys i 0 k, add-one i)
+use lib.Seq.{append-snoc, paste, paste-suc, drop-paste, drop-cons, drop-drop, getD-drop, set-split, take-add}
 
 module _ {A : Type 0} where
-  -- the elements that pass
-  abbrev pub sift : (A → Bool) → List A → List A
-  sift p [] = []
-  sift p (x ∷ xs) = cond (p x) (x ∷ sift p xs) (sift p xs)
-
   -- ---- two lists that are alike from m on
   module _ (xs ys : List A) (m i : ℕ) (alike : drop m xs ≡ drop m ys) (later : m ≤ i) where
     pub rest-alike : drop i xs ≡ drop i ys
@@ -71,17 +45,3 @@ module _ {A : Type 0} where
   paste-behind l v n a m =
       let e : n + a + m ≡ n + (a + m) = omega arith in
       rw (take-add n a l, e, ← (drop-drop (a + m) n l)) (simp append-assoc)
-
-  -- ---- a part whose bounds are cut to the list
-  pub drop-short : (i : ℕ) (l : List A) → drop (min i (length l)) l ≡ drop i l
-  drop-short zero l = let e : min zero (length l) ≡ zero = omega arith in rw e
-  drop-short (suc i) [] = let e : min (suc i) zero ≡ zero = omega arith in rw e
-  drop-short (suc i) (x ∷ l) = let e : min (suc i) (suc (length l)) ≡ suc (min i (length l)) = omega arith in rw e (drop-short i l)
-
-  pub take-short : (n : ℕ) (l : List A) → take (min n (length l)) l ≡ take n l
-  take-short n l = sym (take-min n (length l) l) ∙ ap (take n) (take-length l)
-
-  pub part-short : (l : List A) (at n : ℕ) (start end : ℕ) → start ≡ min at (length l) → end ≡ start + min n (length l - start) → take (end - start) (drop start l) ≡ take n (drop at l)
-  part-short l at n start end p q =
-      let size : end - start ≡ min n (length (drop start l)) = omega (arith, length-drop start l) in
-      rw size (take-short n (drop start l)) ∙ ap (take n) (ap (λ k. drop k l) p ∙ drop-short at l)

@@ -1,12 +1,10 @@
 // The before-images beside the hold queue: a lent buffer with one image of `width` bytes for each entry, in the queue's order, that moves with
 // its entry.
 ghost use mathlib.Core.Path.{_≡_};
-ghost use Prim.Native.Nat.{_+_, _*_, _≤_, _<_, min};
-ghost use lib.Dec.{leb};
+ghost use Prim.Native.Nat.{_+_, _*_, _≤_, _<_};
 ghost use lib.ListN.{length, take, drop, getD, set};
 ghost use lib.Seq.{paste};
 ghost use Rattle.entries.specs.Entries.{entries};
-ghost use Rattle.images.specs.Lists.{same};
 ghost use Rattle.images.specs.Images.{goes, remove-queue, remove-images, remove-count, counts, has-at, hold-of, taken-by, image-has};
 use entries::Entry;
 
@@ -28,16 +26,6 @@ fn goes(which: Removal, e: Entry) -> bool
         Removal::Unchanged { user } => e.user == user && !e.changed,
         Removal::All { user } => e.user == user,
     }
-}
-
-// Whether `count` blocks of `width` bytes fit into `length` bytes. Their product may not fit a number.
-fn blocks_fit(count: usize, width: usize, length: usize) -> bool
-    ensures { λ r. ⌜ r ≡ leb (count * width) length ⌝ }
-{
-    if width == 0 {
-        return true;
-    }
-    count <= length / width
 }
 
 // Copies n bytes to an earlier place.
@@ -81,7 +69,7 @@ pub fn remove(
     if count > queue.len() {
         return count;
     }
-    if !blocks_fit(count, width, images.len()) {
+    if !slices::blocks_fit(count, width, images.len()) {
         return count;
     }
     let mut kept: usize = 0;
@@ -97,46 +85,24 @@ pub fn remove(
     kept
 }
 
-fn least(a: usize, b: usize) -> usize
-    ensures { λ r. ⌜ r ≡ min a b ⌝ }
-{
-    if a < b { a } else { b }
-}
-
-fn same(a: &[u8], b: &[u8]) -> bool
-    ensures { λ r. ⌜ r ≡ same (now (a .entry)) (now (b .entry)) ⌝ }
-{
-    if a.len() != b.len() {
-        return false;
-    }
-    let mut i = 0;
-    while i < a.len() {
-        if a[i] != b[i] {
-            return false;
-        }
-        i += 1;
-    }
-    true
-}
-
 // Whether the bytes stand in `s` at an offset.
 fn has_at(s: &[u8], offset: usize, value: &[u8]) -> bool
     ensures { λ r. ⌜ r ≡ has-at offset (now (value .entry)) (now (s .entry)) ⌝ }
 {
-    let start = least(offset, s.len());
-    let end = start + least(value.len(), s.len() - start);
-    same(&s[start..end], value)
+    let start = slices::least(offset, s.len());
+    let end = start + slices::least(value.len(), s.len() - start);
+    slices::same(&s[start..end], value)
 }
 
 // Whether the bytes stand in the i-th image at an offset.
 fn image_has_at(images: &[u8], i: usize, width: usize, offset: usize, value: &[u8]) -> bool
     ensures { λ r. ⌜ r ≡ has-at offset (now (value .entry)) (take width (drop (i * width) (now (images .entry)))) ⌝ }
 {
-    if !blocks_fit(i, width, images.len()) {
+    if !slices::blocks_fit(i, width, images.len()) {
         return has_at(&images[..0], offset, value);
     }
     let start = i * width;
-    let end = start + least(width, images.len() - start);
+    let end = start + slices::least(width, images.len() - start);
     has_at(&images[start..end], offset, value)
 }
 
@@ -186,7 +152,7 @@ pub fn image_has(
 ) -> bool
     ensures { λ r. ⌜ r ≡ image-has (entries (now (queue .entry)) count) (now (images .entry)) width user file offset (now (value .entry)) ⌝ }
 {
-    let n = least(count, queue.len());
+    let n = slices::least(count, queue.len());
     let mut i = 0;
     while i < n {
         let e = entries::unpack(queue[i]);

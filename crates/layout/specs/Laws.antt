@@ -3,6 +3,7 @@
 -- Assumes nothing.
 use Prim.Native.Nat.{ℕ, zero, suc, _+_, _-_, _≤_, _<_}
 use native.Mathlib.Nat.{mul-le-mul-right, le-of-suc-le-suc}
+use native.Mathlib.Numerals.{add-one}
 use native.Mathlib.Omega.{arith}
 use mathlib.Core.Path.{_≡_, sym, ap, _∙_}
 use mathlib.Core.List.{List, [], _∷_}
@@ -43,6 +44,11 @@ module _ (f : File) (s : FileShape f) where
   unfolding field-offset
   field-before k j h b = row-before field-length (field-count f) (f .fields) no-field places-fields k j h b
 
+  -- a field ends where the next one begins
+  pub field-follows : (k : ℕ) → k < field-count f → field-offset f (k + 1) ≡ field-offset f k + field-length (field-at f k)
+  unfolding field-offset
+  field-follows k h = rw (add-one k) (row-next field-length (field-count f) (f .fields) no-field places-fields k h)
+
   pub field-within : (k : ℕ) → k < field-count f → field-offset f k + field-length (field-at f k) ≤ record-length f
   unfolding field-offset record-length
   field-within k h = row-within field-length (field-count f) (f .fields) no-field places-fields k h
@@ -67,6 +73,11 @@ module _ (d : Definition) (s : DefinitionShape d) where
   pub file-before : (i j : ℕ) → i < file-count d → i < j → file-offset d i + file-size (file-at d i) ≤ file-offset d j
   unfolding file-offset
   file-before i j h b = row-before file-size (file-count d) (d .files) beyond places-files i j h b
+
+  -- a file's part of the store ends where the next one begins
+  pub file-follows : (i : ℕ) → i < file-count d → file-offset d (i + 1) ≡ file-offset d i + file-size (file-at d i)
+  unfolding file-offset
+  file-follows i h = rw (add-one i) (row-next file-size (file-count d) (d .files) beyond places-files i h)
 
   pub file-within : (i : ℕ) → i < file-count d → file-offset d i + file-size (file-at d i) ≤ store-size d
   unfolding file-offset store-size

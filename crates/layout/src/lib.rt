@@ -1,7 +1,8 @@
 // Where records and fields lie. Every size fits: of any kept definition, a record has at most 16 * 255 bytes and the store less than 2^33.
 ghost use mathlib.Core.Path.{_≡_};
-ghost use Prim.Native.Nat.{min};
-ghost use Rattle.layout.specs.Layout.{field-offset, record-length, slot-length, slot-offset, file-size, file-offset, store-size, image-length, place};
+ghost use Prim.Native.Nat.{max};
+ghost use Rattle.definition.specs.Table.{field-at};
+ghost use Rattle.layout.specs.Layout.{field-length, field-offset, record-length, slot-length, slot-offset, file-size, file-offset, store-size, image-length, place};
 use definition::Definition;
 use definition::File;
 use definition::MAX_FIELDS;
@@ -13,22 +14,23 @@ pub enum Found {
     Nowhere,
 }
 
-fn least(a: usize, b: usize) -> usize
-    ensures { λ r. ⌜ r ≡ min a b ⌝ }
+// The length of the field at a place; 0 where there is no such place.
+pub fn field_length(f: File, k: usize) -> usize
+    ensures { λ r. ⌜ r ≡ field-length (field-at f k) ⌝ }
 {
-    if a < b { a } else { b }
+    let g = definition::field_at(f, k);
+    g.length as usize
 }
 
 // Where the k-th field of a file, from 0, begins in its record; past the last field, the record's length.
 pub fn field_offset(f: File, k: usize) -> usize
     ensures { λ r. ⌜ r ≡ field-offset f k ⌝ }
 {
-    let n = least(k, definition::field_count(f));
+    let n = slices::least(k, definition::field_count(f));
     let mut sum: usize = 0;
     let mut i = 0;
     while i < n {
-        let g = f.fields[i];
-        sum += g.length as usize;
+        sum += field_length(f, i);
         i += 1;
     }
     sum
@@ -67,7 +69,7 @@ fn file_size(f: File) -> usize
 pub fn file_offset(d: Definition, i: usize) -> usize
     ensures { λ r. ⌜ r ≡ file-offset d i ⌝ }
 {
-    let n = least(i, definition::file_count(d));
+    let n = slices::least(i, definition::file_count(d));
     let mut sum: usize = 0;
     let mut j = 0;
     while j < n {
@@ -84,6 +86,12 @@ pub fn store_size(d: Definition) -> usize
     file_offset(d, MAX_FILES)
 }
 
+fn greatest(a: usize, b: usize) -> usize
+    ensures { λ r. ⌜ r ≡ max a b ⌝ }
+{
+    if a < b { b } else { a }
+}
+
 // The bytes of an image: the greatest record length.
 pub fn image_length(d: Definition) -> usize
     ensures { λ r. ⌜ r ≡ image-length d ⌝ }
@@ -93,10 +101,7 @@ pub fn image_length(d: Definition) -> usize
     let mut i = 0;
     while i < n {
         let f = d.files[i];
-        let length = record_length(f);
-        if most < length {
-            most = length;
-        }
+        most = greatest(most, record_length(f));
         i += 1;
     }
     most

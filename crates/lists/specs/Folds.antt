@@ -48,6 +48,12 @@ module _ {A : Type 0} where
   each-at P (x ∷ xs) d h zero k = h .0
   each-at P (x ∷ xs) d h (suc i) k = each-at P xs d (h .1) i (le-of-suc-le-suc k)
 
+  -- a list reads past its end as the default
+  pub each-getD : (P : A → Type 0) (l : List A) (d : A) → Each P l → P d → (i : ℕ) → P (getD l i d)
+  each-getD P [] d h k i = k
+  each-getD P (x ∷ xs) d h k zero = h .0
+  each-getD P (x ∷ xs) d h k (suc i) = each-getD P xs d (h .1) k i
+
   pub each-index : (P : A → Type 0) (d : A) (l : List A) → ((i : ℕ) → i < length l → P (getD l i d)) → Each P l
   each-index P d [] h = tt
   each-index P d (x ∷ xs) h = (h zero (omega arith), each-index P d xs (λ i k. h (suc i) (suc-le-suc k)))

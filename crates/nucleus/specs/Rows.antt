@@ -14,7 +14,7 @@ use Rattle.layout.specs.Layout.{field-offset}
 use Rattle.validity.specs.Validity.{valid}
 use Rattle.elements.specs.Elements.{format-valid, named-twice, length-needed, places}
 use Rattle.fields.specs.Fields.{write-fields, values-allowed, null-record}
-use Rattle.store.specs.Lists.{numbers}
+use Rattle.lists.specs.Numbers.{numbers}
 use Rattle.store.specs.Store.{record-of, field-value, elsewhere}
 use Rattle.queue.specs.Queue as queue
 use Rattle.images.specs.Images.{image-has}

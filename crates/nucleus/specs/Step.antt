@@ -8,7 +8,7 @@ use lib.ListN.{length}
 use Rattle.lists.specs.Tests.{cond}
 use Rattle.definition.specs.Table.{file-at, file-count, no-definition}
 use Rattle.reading.specs.Grammar.{read-table}
-use Rattle.store.specs.Lists.{numbers}
+use Rattle.lists.specs.Numbers.{numbers}
 use Rattle.store.specs.Store.{fresh, file-part, with-part}
 use Rattle.definition.specs.declared.Definition.{Definition}
 use Rattle.reading.specs.declared.End.{End}

@@ -8,7 +8,7 @@ use Rattle.lists.specs.Tests.{cond}
 use Rattle.lists.specs.Folds.{any}
 use Rattle.definition.specs.Table.{beyond, file-at}
 use Rattle.layout.specs.Layout.{place}
-use Rattle.store.specs.Lists.{from-to}
+use Rattle.lists.specs.Numbers.{from-to}
 use Rattle.store.specs.Store.{first-of, has-record, lowest, file-part, with-part}
 use Rattle.entries.specs.Entries.{is-of}
 use Rattle.queue.specs.Queue.{holder}

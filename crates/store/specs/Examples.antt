@@ -12,7 +12,7 @@ use Rattle.definition.specs.declared.File.{File}
 use Rattle.definition.specs.declared.Format.the-variants.{Alphanumeric}
 use Rattle.definition.specs.declared.FieldOption.the-variants.{Plain, Unique}
 use Rattle.layout.specs.Layout.{field-offset, record-length}
-use Rattle.store.specs.Lists.{same}
+use Rattle.lists.specs.Tests.{eqbs}
 use Rattle.store.specs.Store.{slot-fits, has-record, get, lowest, elsewhere, put-record, empty, fresh}
 use Rattle.store.specs.declared.Occupied.{Occupied}
 use Rattle.store.specs.declared.Occupied.the-variants.{At, Nowhere}
@@ -85,7 +85,7 @@ rows =
     record { given = fresh paper (1 ∷ 50 ∷ 65 ∷ 66 ∷ 1 ∷ 51 ∷ []); expected = 0 ∷ 50 ∷ 65 ∷ 66 ∷ 1 ∷ 51 ∷ [] } ∷ []
 
 right : Row → Bool
-right r = same (r .given) (r .expected)
+right r = eqbs (r .given) (r .expected)
 
 rows-right : all right rows ≡ true
 unfolding paper part bytes at truth rows right slot-fits has-record get lowest elsewhere put-record empty fresh field-offset record-length

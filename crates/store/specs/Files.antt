@@ -14,7 +14,8 @@ use Rattle.definition.specs.Shape.{DefinitionShape}
 use Rattle.definition.specs.declared.Definition.{Definition}
 use Rattle.layout.specs.Layout.{file-size, file-offset, store-size}
 use Rattle.layout.specs.Laws.{file-before, file-within}
-use Rattle.store.specs.Lists.{length-piece, length-patch, patch-same, patch-other, patch-behind, Apart}
+use Rattle.lists.specs.Parts.{length-piece, Apart}
+use Rattle.lists.specs.Pieces.{length-patch, patch-same, patch-other, patch-behind}
 use Rattle.store.specs.Store.{file-part, with-part}
 
 module _ (d : Definition) (s : DefinitionShape d) (store : List ℕ) (room : store-size d ≤ length store) where

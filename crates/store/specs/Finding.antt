@@ -9,11 +9,11 @@ use mathlib.Core.Option.{some}
 use lib.Dec.{eqb, ltb, leb}
 use lib.ListN.{length}
 use borrow.Author.Tests.{ltb-true, ltb-false, leb-true, leb-false, lt-ltb, eqb-false, ne-eqb, not-true}
-use Rattle.lists.specs.Tests.{within-above, within-most, Outcome, holds, fails, outcome, not-both, and-left, and-right, or-left, or-right}
-use Rattle.lists.specs.Folds.{any}
+use Rattle.lists.specs.Tests.{within-above, within-most, Outcome, holds, fails, outcome, not-both, and-left, and-right, or-left, or-right, eqbs, eqbs-true, eqbs-self}
+use Rattle.lists.specs.Folds.{any, any-true}
 use Rattle.definition.specs.Table.{field-count}
 use Rattle.definition.specs.declared.File.{File}
-use Rattle.store.specs.Lists.{numbers, same, same-true, same-self, any-true}
+use Rattle.lists.specs.Numbers.{numbers}
 use Rattle.store.specs.Store.{first-of, slot-count, slot-fits, isns-from, has-record, record-of, get, field-value, has-value, lowest, elsewhere}
 use Rattle.store.specs.Laws.{has-fits, fits-most, fits-least, get-some, some-has, some-record}
 use Rattle.store.specs.declared.Occupied.the-variants.{At, Nowhere}
@@ -103,13 +103,13 @@ module _ (f : File) (part : List ℕ) (k isn : ℕ) (value : List ℕ) where
     where
       witness : (n : ℕ) → has-value f part k isn value n ≡ true → Elsewhere f part k isn value
       witness n t =
-          let both = and-right (not (eqb n isn)) (has-record f part n && same (field-value f k (record-of f part n)) value) t in
+          let both = and-right (not (eqb n isn)) (has-record f part n && eqbs (field-value f k (record-of f part n)) value) t in
           record {
             other = n;
             bytes = record-of f part n;
-            apart = eqb-false n isn (not-true (eqb n isn) (and-left (not (eqb n isn)) (has-record f part n && same (field-value f k (record-of f part n)) value) t));
-            there = get-some f part n (and-left (has-record f part n) (same (field-value f k (record-of f part n)) value) both);
-            has = same-true (field-value f k (record-of f part n)) value (and-right (has-record f part n) (same (field-value f k (record-of f part n)) value) both);
+            apart = eqb-false n isn (not-true (eqb n isn) (and-left (not (eqb n isn)) (has-record f part n && eqbs (field-value f k (record-of f part n)) value) t));
+            there = get-some f part n (and-left (has-record f part n) (eqbs (field-value f k (record-of f part n)) value) both);
+            has = eqbs-true (field-value f k (record-of f part n)) value (and-right (has-record f part n) (eqbs (field-value f k (record-of f part n)) value) both);
           }
 
   pub elsewhere-false : elsewhere f part k isn value ≡ false → k < field-count f → Elsewhere f part k isn value → ⊥
@@ -121,5 +121,5 @@ module _ (f : File) (part : List ℕ) (k isn : ℕ) (value : List ℕ) where
       let none : any (has-value f part k isn value) (isns-from f part 1) ≡ false = rw (lt-ltb k (field-count f) in-use) at h in
       let no = any-number (has-value f part k isn value) (slot-count f (length part) + 1 - 1) 1 none n (fits-least f part n fits) (omega (arith, within-most 1 (slot-count f (length part)) n fits)) in
       let value-there : field-value f k (record-of f part n) ≡ value = ap (field-value f k) (some-record f part n (w .bytes) (w .there)) ∙ w .has in
-      let yes : has-value f part k isn value n ≡ true = rw (ne-eqb n isn (w .apart), has, value-there) (same-self value) in
+      let yes : has-value f part k isn value n ≡ true = rw (ne-eqb n isn (w .apart), has, value-there) (eqbs-self value) in
       not-both (has-value f part k isn value n) yes no

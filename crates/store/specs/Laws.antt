@@ -17,9 +17,24 @@ use Rattle.lists.specs.Folds.{Each}
 use Rattle.definition.specs.declared.File.{File}
 use Rattle.layout.specs.Layout.{record-length, slot-length, slot-offset, file-size}
 use Rattle.layout.specs.Laws.{slot-before}
-use Rattle.store.specs.Lists.{numbers, each-number, set-zero, set-zero-other, piece, patch, length-piece, length-patch, patch-set, patch-same, patch-other, piece-first, piece-rest, set-other, Apart}
+use Rattle.lists.specs.Numbers.{numbers, each-number}
+use Rattle.lists.specs.Pieces.{piece, patch, length-patch, patch-set, patch-same, patch-other, piece-first, piece-rest, set-other}
+use Rattle.lists.specs.Parts.{length-piece, Apart}
 use Rattle.store.specs.Store.{slot-count, slot-fits, has-record, record-of, get, put-record, empty, fresh, cleared, isns-from}
 use Rattle.store.specs.Slots.{slot-inside}
+
+-- a 0 that is stored, and one that was there
+pub set-zero : (l : List ℕ) (i : ℕ) → getD (set l i 0) i 0 ≡ 0
+set-zero [] i = refl
+set-zero (x ∷ xs) zero = refl
+set-zero (x ∷ xs) (suc i) = set-zero xs i
+
+pub set-zero-other : (l : List ℕ) (i j : ℕ) → getD l j 0 ≡ 0 → getD (set l i 0) j 0 ≡ 0
+set-zero-other [] i j h = h
+set-zero-other (x ∷ xs) zero zero h = refl
+set-zero-other (x ∷ xs) zero (suc j) h = h
+set-zero-other (x ∷ xs) (suc i) zero h = h
+set-zero-other (x ∷ xs) (suc i) (suc j) h = set-zero-other xs i j h
 
 -- ---- which ISNs have a slot
 -- in a part as long as the file, each of its ISNs

@@ -1,4 +1,3 @@
-pub mod Lists
 pub mod Store
 pub mod Slots
 pub mod Laws

@@ -9,14 +9,15 @@ use mathlib.Core.List.{List}
 use lib.Dec.{eqb}
 use lib.ListN.{length, getD}
 use borrow.Author.Tests.{lt-ltb}
-use Rattle.lists.specs.Tests.{within-inside, within-least, within-most, Outcome, holds, fails, outcome, and-false, and-left}
-use Rattle.lists.specs.Folds.{any}
+use Rattle.lists.specs.Tests.{within-inside, within-least, within-most, Outcome, holds, fails, outcome, and-false, and-left, eqbs, eqbs-true}
+use Rattle.lists.specs.Folds.{any, any-agree, any-none}
 use Rattle.definition.specs.Table.{field-at, field-count}
 use Rattle.definition.specs.Shape.{FileShape}
 use Rattle.definition.specs.declared.File.{File}
 use Rattle.layout.specs.Layout.{field-length, field-offset, record-length, slot-length, slot-offset}
 use Rattle.layout.specs.Laws.{field-within}
-use Rattle.store.specs.Lists.{same, same-true, any-agree, any-none, length-piece, piece-piece}
+use Rattle.lists.specs.Parts.{length-piece}
+use Rattle.lists.specs.Pieces.{piece-piece}
 use Rattle.store.specs.Store.{recorded, has-field, held, slot-count, slot-fits, isns-from, has-record, record-of, field-value, has-value, elsewhere}
 
 -- a slot ends where the next begins, and no later than the last
@@ -65,13 +66,13 @@ module _ (f : File) (s : FileShape f) (part : List ℕ) (k isn : ℕ) (value : L
   elsewhere-misfit other = rw (lt-ltb k (field-count f) in-use) (any-none (has-value f part k isn value) none (isns-from f part 1))
     where
       none : (m : ℕ) → has-value f part k isn value m ≡ false
-      none m = go (outcome (has-record f part m)) (outcome (same (field-value f k (record-of f part m)) value))
+      none m = go (outcome (has-record f part m)) (outcome (eqbs (field-value f k (record-of f part m)) value))
         where
-          go : Outcome (has-record f part m) → Outcome (same (field-value f k (record-of f part m)) value) → has-value f part k isn value m ≡ false
+          go : Outcome (has-record f part m) → Outcome (eqbs (field-value f k (record-of f part m)) value) → has-value f part k isn value m ≡ false
           go (fails a) b = rw a (and-false (not (eqb m isn)))
           go (holds a) (fails b) = rw (a, b) (and-false (not (eqb m isn)))
           go (holds a) (holds b) =
               let room = slot-inside f part m (and-left (slot-fits f part m) (eqb (getD part (slot-offset f m) 0) 1) a) in
               let whole : length (record-of f part m) ≡ record-length f = length-piece (slot-offset f m + 1) (record-length f) part (omega arith) in
               let long = length-piece (field-offset f k) (field-length (field-at f k)) (record-of f part m) (omega (arith, field-within f s k in-use)) in
-              absurd (other (sym (ap length (same-true (field-value f k (record-of f part m)) value b)) ∙ long))
+              absurd (other (sym (ap length (eqbs-true (field-value f k (record-of f part m)) value b)) ∙ long))

@@ -6,13 +6,14 @@ use mathlib.Core.List.{List, [], _∷_}
 use mathlib.Core.Option.{Option, none, some}
 use lib.Dec.{eqb, ltb}
 use lib.ListN.{length, getD, set}
-use Rattle.lists.specs.Tests.{cond, within}
+use Rattle.lists.specs.Tests.{cond, within, eqbs}
 use Rattle.lists.specs.Folds.{any}
 use Rattle.definition.specs.Table.{field-at, field-count, file-at}
 use Rattle.definition.specs.declared.File.{File}
 use Rattle.definition.specs.declared.Definition.{Definition}
 use Rattle.layout.specs.Layout.{field-length, field-offset, record-length, slot-length, slot-offset, file-size, file-offset}
-use Rattle.store.specs.Lists.{from-to, same, piece, patch}
+use Rattle.lists.specs.Numbers.{from-to}
+use Rattle.lists.specs.Pieces.{piece, patch}
 use Rattle.store.specs.declared.Occupied.{Occupied}
 use Rattle.store.specs.declared.Occupied.the-variants.{At, Nowhere}
 
@@ -28,12 +29,12 @@ first-of p (isn ∷ isns) = cond (p isn) (At isn) (first-of p isns)
 
 -- whether the slot that begins at a place has a record with the value at an offset
 abbrev pub has-field : List ℕ → ℕ → ℕ → List ℕ → Bool
-has-field part at offset value = eqb (getD part at 0) 1 && same (piece (at + 1 + offset) (length value) part) value
+has-field part at offset value = eqb (getD part at 0) 1 && eqbs (piece (at + 1 + offset) (length value) part) value
 
 -- whether the slot is another than the given one, and has a record with the value at an offset
 abbrev pub held : ℕ → ℕ → List ℕ → ℕ → ℕ → List ℕ → ℕ → Bool
 held last size part isn offset value other =
-    not (eqb other isn) && (recorded last size part other && same (piece ((other - 1) * size + 1 + offset) (length value) part) value)
+    not (eqb other isn) && (recorded last size part other && eqbs (piece ((other - 1) * size + 1 + offset) (length value) part) value)
 
 -- 0 in the first byte of each of the slots
 abbrev pub cleared : ℕ → List ℕ → List ℕ → List ℕ
@@ -76,7 +77,7 @@ lowest f part from = first-of (has-record f part) (isns-from f part from)
 -- "another record of the file has it in that field": a record at an ISN other than the given one has the value in the field at place k
 abbrev pub has-value : File → List ℕ → ℕ → ℕ → List ℕ → ℕ → Bool
 has-value f part k isn value other =
-    not (eqb other isn) && (has-record f part other && same (field-value f k (record-of f part other)) value)
+    not (eqb other isn) && (has-record f part other && eqbs (field-value f k (record-of f part other)) value)
 
 unfoldable pub elsewhere : File → List ℕ → ℕ → ℕ → List ℕ → Bool
 elsewhere f part k isn value = ltb k (field-count f) && any (has-value f part k isn value) (isns-from f part 1)

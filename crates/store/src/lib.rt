@@ -7,12 +7,10 @@ ghost use mathlib.Core.List.{_∷_};
 ghost use lib.ListN.{length};
 ghost use Rattle.lists.specs.Folds.{any};
 ghost use Rattle.lists.specs.Tests.{within};
-ghost use Rattle.definition.specs.Table.{field-at};
-ghost use Rattle.layout.specs.Layout.{field-length};
-ghost use Rattle.store.specs.Lists.{from-to, same, patch};
+ghost use Rattle.lists.specs.Numbers.{from-to};
+ghost use Rattle.lists.specs.Pieces.{patch};
 ghost use Rattle.store.specs.Store.{recorded, first-of, held, has-field, cleared, slot-count, has-record, lowest, elsewhere, put-record, empty, fresh};
 use definition::File;
-use definition::MAX_FIELDS;
 
 // The ISN of a record that was sought.
 pub enum Occupied {
@@ -87,20 +85,6 @@ pub fn lowest(f: File, part: &[u8], from: u16) -> Occupied
     first_record(part, size, from as usize, last)
 }
 
-fn same(a: &[u8], b: &[u8]) -> bool
-    requires { ⌜ length (now a) ≡ length (now b) ⌝ }
-    ensures { λ r. ⌜ r ≡ same (now (a .entry)) (now (b .entry)) ⌝ }
-{
-    let mut i = 0;
-    while i < a.len() {
-        if a[i] != b[i] {
-            return false;
-        }
-        i += 1;
-    }
-    true
-}
-
 // Whether the slot that begins at `at` has a record with the value at an offset.
 fn has_field(part: &[u8], at: usize, offset: usize, value: &[u8]) -> bool
     requires { ⌜ at + 1 + offset + length (now value) ≤ length (now part) ⌝ }
@@ -111,7 +95,7 @@ fn has_field(part: &[u8], at: usize, offset: usize, value: &[u8]) -> bool
     }
     let start = at + 1 + offset;
     let end = start + value.len();
-    same(&part[start..end], value)
+    slices::same(&part[start..end], value)
 }
 
 // Whether a slot other than `isn`, of those up to `last`, has a record with the value at an offset.
@@ -135,16 +119,6 @@ fn other_has(part: &[u8], size: usize, last: usize, isn: usize, offset: usize, v
     false
 }
 
-// The length of the field at a place; 0 where there is no such place.
-fn field_length(f: File, place: usize) -> usize
-    ensures { λ r. ⌜ r ≡ field-length (field-at f place) ⌝ }
-{
-    if MAX_FIELDS <= place {
-        return 0;
-    }
-    f.fields[place].length as usize
-}
-
 // Whether a record of the file, at an ISN other than the given one, has the value in the field at a place.
 pub fn elsewhere(f: File, part: &[u8], place: usize, isn: u16, value: &[u8]) -> bool
     ensures { λ r. ⌜ r ≡ elsewhere f (now (part .entry)) place isn (now (value .entry)) ⌝ }
@@ -152,24 +126,13 @@ pub fn elsewhere(f: File, part: &[u8], place: usize, isn: u16, value: &[u8]) -> 
     if definition::field_count(f) <= place {
         return false;
     }
-    if value.len() != field_length(f, place) {
+    if value.len() != layout::field_length(f, place) {
         return false;
     }
     let offset = layout::field_offset(f, place);
     let size = layout::slot_length(f);
     let last = slot_count(size, f.max_isn, part.len());
     other_has(part, size, last, isn as usize, offset, value)
-}
-
-fn copy(from: &[u8], to: &mut [u8])
-    requires { ⌜ length (now from) ≡ length (now to) ⌝ }
-    ensures { λ _. ⌜ now (to .exit) ≡ now (from .entry) ⌝ }
-{
-    let mut i = 0;
-    while i < from.len() {
-        to[i] = from[i];
-        i += 1;
-    }
 }
 
 // Fills the slot that begins at `at`: 1, and then the bytes.
@@ -180,7 +143,7 @@ fn fill(part: &mut [u8], at: usize, bytes: &[u8])
     part[at] = 1;
     let start = at + 1;
     let end = start + bytes.len();
-    copy(bytes, &mut part[start..end]);
+    slices::copy(bytes, &mut part[start..end]);
 }
 
 // Puts a record at an ISN. A record of another length than the file's is not put.

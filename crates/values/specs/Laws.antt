@@ -12,11 +12,20 @@ use lib.ListN.{length, replicate, length-set, length-replicate, getD-replicate}
 use lib.Seq.{take-set-le, getD-set-same, set-set}
 use borrow.Author.Tests.{ne-eqb, eqb-true, eqb-false, not-false}
 use Rattle.lists.specs.Tests.{cond, Outcome, holds, fails, outcome, and-left, or-left, or-right, not-both}
-use Rattle.lists.specs.Folds.{all, any, Each, each-at}
-use Rattle.values.specs.Lists.{all-append, any-append, all-replicate, each-replicate, each-set, take-replicate}
+use Rattle.lists.specs.Folds.{all, any, Each, each-at, all-append, any-append, all-replicate, each-replicate, each-set}
+use Rattle.lists.specs.Rest.{take-replicate}
 use Rattle.values.specs.Values.{unpacked-digit, digit, positive-sign, negative-sign, not-zero, halves, front, last, digits, sign, allowed, below-zero, stored-sign, with-sign, stored, null-byte, null-value, digit-value, number-after, decimal}
 use Rattle.definition.specs.declared.Format.{Format}
 use Rattle.definition.specs.declared.Format.the-variants.{Alphanumeric, Binary, Unpacked, Packed}
+
+-- bytes that any are allowed in are stored as they are
+pub plain-stored : (v : List ℕ) → stored Alphanumeric v ≡ v
+unfolding stored
+plain-stored v = refl
+
+pub plain-allowed : (v : List ℕ) → allowed Alphanumeric v ≡ true
+unfolding allowed
+plain-allowed v = refl
 
 -- ---- lengths
 pub stored-length : (f : Format) (v : List ℕ) → length (stored f v) ≡ length v

@@ -1,5 +1,4 @@
 pub mod Values
-pub mod Lists
 pub mod Laws
 pub mod Numbers
 pub mod Examples

@@ -157,17 +157,6 @@ fn put_form(format: Format, value: &mut [u8])
     }
 }
 
-fn copy<'a, 'b>(from: &'a [u8], to: &'b mut [u8])
-    requires { ⌜ length (now from) ≡ length (now to) ⌝ }
-    ensures { λ _. ⌜ now (to .exit) ≡ now (from .entry) ⌝ }
-{
-    let mut i = 0;
-    while i < to.len() {
-        to[i] = from[i];
-        i += 1;
-    }
-}
-
 // Writes the stored form of a value. Where the lengths differ nothing is written.
 pub fn put_stored<'a, 'b>(format: Format, value: &'a [u8], to: &'b mut [u8])
     ensures { λ _. ⌜ now (to .exit) ≡ cond (eqb (length (now (value .entry))) (length (now (to .entry)))) (stored format (now (value .entry))) (now (to .entry)) ⌝ }
@@ -175,7 +164,7 @@ pub fn put_stored<'a, 'b>(format: Format, value: &'a [u8], to: &'b mut [u8])
     if value.len() != to.len() {
         return;
     }
-    copy(value, to);
+    slices::copy(value, to);
     put_form(format, to);
 }
 

@@ -2,10 +2,10 @@
 -- Assumes nothing.
 use Prim.Native.Nat.{_-_, _≤_}
 use native.Mathlib.Omega.{arith}
-use mathlib.Core.Path.{_≡_, sym, _∙_}
+use mathlib.Core.Path.{_≡_, sym, ap, _∙_}
 use lib.ListN.{drop}
 use borrow.Author.Needs.{needs}
-use Rattle.definition.specs.Table.{fields-of}
+use Rattle.definition.specs.Table.{field-at, fields-of}
 use Rattle.definition.specs.Shape.{field-next, no-field-left}
 use Rattle.elements.specs.Search.{first-place}
 use Rattle.elements.specs.Elements.{has-name, field-named}
@@ -18,10 +18,14 @@ use Rattle.definition.proofs.field_count.Reads as field-count-reads
 use Rattle.definition.proofs.same_name.Reads as same-name-reads
 
 abbrev Inv-loop : tie.InvT-loop
-Inv-loop name f n i₀ i = (i ≤ n) × (first-place (has-name name) (fields-of f) 0 ≡ first-place (has-name name) (drop i (fields-of f)) i)
+Inv-loop f name n i₀ i = (i ≤ n) × (first-place (has-name name) (fields-of f) 0 ≡ first-place (has-name name) (drop i (fields-of f)) i)
 
 abbrev μ-loop : tie.MeasureT-loop
-μ-loop name f n i₀ i = n - i
+μ-loop f name n i₀ i = n - i
+
+-- what was compared
+compared : (c : tie.After-same-name Inv-loop μ-loop) → let l = c .before .before .before in c .same-name .result ≡ has-name (l .before .before .args .name) (field-at (l .before .before .args .f) (l .loop .i))
+compared c = c .same-name .ensures ∙ ap (has-name (c .before .before .before .before .before .args .name)) (c .before .field-at .ensures)
 
 field-count-requires : tie.Need-field-count-requires Inv-loop μ-loop
 field-count-requires c κs = search needs
@@ -29,11 +33,8 @@ field-count-requires c κs = search needs
 loop-holds : tie.Need-loop-holds Inv-loop μ-loop
 loop-holds c = search needs
 
-mul-g : tie.Need-mul-g Inv-loop μ-loop
-mul-g c = omega arith
-
-element-copy-out-g : tie.Need-element-copy-out-g Inv-loop μ-loop
-element-copy-out-g c = omega arith
+field-at-requires : tie.Need-field-at-requires Inv-loop μ-loop
+field-at-requires c κs = search needs
 
 same-name-requires : tie.Need-same-name-requires Inv-loop μ-loop
 same-name-requires c κs = search needs
@@ -42,8 +43,8 @@ returns : tie.Need-returns Inv-loop μ-loop
 unfolding field-named
 returns c =
     let l = c .before .before .before .before in
-    let f = l .before .before .args .t1 in
-    let yes = sym (c .before .same-name .ensures) ∙ c .if1 .taken in
+    let f = l .before .before .args .f in
+    let yes = sym (compared (c .before)) ∙ c .if1 .taken in
     sym (l .loop .inv .1 ∙ rw (field-next f (file-known _ _ (l .before .before .good .0)) (l .loop .i) (omega arith), yes))
 
 add-i : tie.Need-add-i Inv-loop μ-loop
@@ -55,15 +56,15 @@ loop-less c = omega arith
 loop-again : tie.Need-loop-again Inv-loop μ-loop
 loop-again c =
     let l = c .before .before .before .before in
-    let f = l .before .before .args .t1 in
-    let no = sym (c .before .same-name .ensures) ∙ c .if1 .left in
+    let f = l .before .before .args .f in
+    let no = sym (compared (c .before)) ∙ c .if1 .left in
     (omega arith, l .loop .inv .1 ∙ rw (field-next f (file-known _ _ (l .before .before .good .0)) (l .loop .i) (omega arith), no))
 
 returns-2 : tie.Need-returns-2 Inv-loop μ-loop
 unfolding field-named
 returns-2 c =
     let l = c .before in
-    sym (l .loop .inv .1 ∙ rw (no-field-left (l .before .before .args .t1) (l .loop .i) (omega arith)))
+    sym (l .loop .inv .1 ∙ rw (no-field-left (l .before .before .args .f) (l .loop .i) (omega arith)))
 
 pub field-named-spec : {M : Type 1} → statement M
 field-named-spec =
@@ -73,8 +74,7 @@ field-named-spec =
     μ-loop
     field-count-requires
     loop-holds
-    mul-g
-    element-copy-out-g
+    field-at-requires
     same-name-requires
     returns
     add-i

@@ -8,7 +8,6 @@ use borrow.Author.Tests.{le-leb, lt-leb}
 use borrow.Author.Needs.{needs}
 use Rattle.elements.specs.Elements.{length-of, length-needed, needed-within}
 use Rattle.elements.specs.Steps.{needed-step, needed-end}
-use Rattle.elements.specs.Laws.{element-inside}
 use Rattle.elements.proofs.needed_within.Statement.{statement}
 use Rattle.elements.proofs.needed_within.Tie as tie
 use Rattle.elements.proofs.needed_within.Reads as reads
@@ -29,9 +28,7 @@ element-requires : tie.Need-element-requires Inv-loop μ-loop
 element-requires c κs = search needs
 
 length-of-requires : tie.Need-length-of-requires Inv-loop μ-loop
-length-of-requires c κs =
-    let a = c .before .before .before .before .args in
-    λ k e. element-inside (a .f) (a .format .now) (c .before .before .loop .i) k (sym (c .element .ensures) ∙ e)
+length-of-requires c κs = search needs
 
 sub-if1 : tie.Need-sub-if1 Inv-loop μ-loop
 sub-if1 c = omega arith

@@ -1,51 +1,46 @@
 -- `put_nulls` meets its contract. The loop's invariant: the nulls of the fields that are left, stored from here on, make the whole.
 -- Assumes nothing.
-use Prim.Native.Nat.{ℕ, _+_, _-_, _≤_}
+use Prim.Native.Nat.{ℕ, _+_, _-_, _≤_, _<_}
 use native.Mathlib.Omega.{arith}
-use mathlib.Core.Path.{_≡_, refl, sym, ap, _∙_}
-use mathlib.Core.List.{List, _∷_}
+use mathlib.Core.Path.{_≡_, refl, sym, _∙_}
 use lib.ListN.{length, drop}
 use lib.Seq.{sets, length-sets}
-use borrow.Author.Needs.{needs}
 use borrow.Author.Tests.{le-leb, lt-leb}
-use Rattle.lists.specs.Folds.{total}
+use Rattle.lists.specs.Parts.{sets-append}
 use Rattle.definition.specs.Table.{field-at, field-count, fields-of}
-use Rattle.definition.specs.Shape.{field-next, no-field-left}
+use Rattle.definition.specs.Shape.{FileShape, field-next, no-field-left}
 use Rattle.definition.proofs.Known.{file-known}
-use Rattle.layout.specs.Layout.{field-length, record-length}
-use Rattle.layout.specs.Bounds.{record-length-most}
+use Rattle.layout.specs.Layout.{field-length, field-offset, record-length}
+use Rattle.layout.specs.Laws.{field-follows, field-within}
 use Rattle.values.specs.Values.{null-value}
 use Rattle.values.specs.Laws.{null-length}
-use Rattle.lists.specs.Parts.{sets-append, patched, length-part, patched-sets}
 use Rattle.fields.specs.Fields.{nulls, null-record}
+use borrow.Author.Needs.{needs}
 use Rattle.fields.proofs.put_nulls.Statement.{statement}
 use Rattle.fields.proofs.put_nulls.Tie as tie
 
 abbrev Inv-loop : tie.InvT-loop
-Inv-loop content₀ f n k₀ at₀ content k at = (at + total field-length (drop k (fields-of f)) ≡ record-length f) × (length content ≡ length content₀) × (sets content at (nulls (drop k (fields-of f))) ≡ sets content₀ 0 (nulls (fields-of f)))
+Inv-loop f content₀ n k₀ content k = (length content ≡ length content₀) × (sets content (field-offset f k) (nulls (drop k (fields-of f))) ≡ sets content₀ 0 (nulls (fields-of f)))
 
 abbrev μ-loop : tie.MeasureT-loop
-μ-loop content₀ f n k₀ at₀ content k at = n - k
+μ-loop f content₀ n k₀ content k = n - k
 
 -- the function's entry, from here
 abbrev entry : tie.At-loop Inv-loop μ-loop → tie.Start Inv-loop μ-loop
 entry c = c .before .before .before .before .before
 
--- one turn: the field at k, the room for it, and small numbers
-next : (c : tie.In-loop Inv-loop μ-loop) → drop (c .before .loop .k) (fields-of (entry (c .before) .args .t1)) ≡ field-at (entry (c .before) .args .t1) (c .before .loop .k) ∷ drop (c .before .loop .k + 1) (fields-of (entry (c .before) .args .t1))
-next c =
-    let s = entry (c .before) in
-    field-next (s .args .t1) (file-known _ _ (s .good .0)) (c .before .loop .k) (omega (arith, c .before .before .field-count .ensures, c .loop-test .taken))
+shape : (c : tie.At-loop Inv-loop μ-loop) → FileShape (entry c .args .f)
+shape c = file-known _ _ (entry c .good .0)
 
-room : (c : tie.In-loop Inv-loop μ-loop) → c .before .loop .at + field-length (field-at (entry (c .before) .args .t1) (c .before .loop .k)) ≤ length (c .before .loop .content)
+-- the field at k is in use, so it lies in the record
+in-use : (c : tie.In-loop Inv-loop μ-loop) → c .before .loop .k < field-count (entry (c .before) .args .f)
+in-use c = omega (arith, c .before .before .field-count .ensures, c .loop-test .taken)
+
+room : (c : tie.In-loop Inv-loop μ-loop) → field-offset (entry (c .before) .args .f) (c .before .loop .k) + field-length (field-at (entry (c .before) .args .f) (c .before .loop .k)) ≤ length (c .before .loop .content)
 room c =
-    let e = c .before .before .before in
-    omega (arith, ap (total field-length) (next c), c .before .loop .inv .0, c .before .loop .inv .1, e .before .record-length .ensures, e .if1 .left)
-
-small : (c : tie.In-loop Inv-loop μ-loop) → record-length (entry (c .before) .args .t1) ≤ 4080
-small c =
-    let s = entry (c .before) in
-    record-length-most (s .args .t1) (file-known _ _ (s .good .0))
+    let l = c .before in
+    let e = l .before .before in
+    omega (arith, field-within (entry l .args .f) (shape l) (l .loop .k) (in-use c), l .loop .inv .0, e .before .record-length .ensures, e .if1 .left)
 
 record-length-requires : tie.Need-record-length-requires Inv-loop μ-loop
 record-length-requires c κs = search needs
@@ -54,77 +49,55 @@ returns : tie.Need-returns Inv-loop μ-loop
 unfolding null-record
 returns c =
     let s = c .before .before .before in
-    rw (lt-leb (record-length (s .args .t1)) (length (s .args .content .now)) (omega (arith, c .before .record-length .ensures, c .if1 .taken)))
+    rw (lt-leb (record-length (s .args .f)) (length (s .args .content .now)) (omega (arith, c .before .record-length .ensures, c .if1 .taken)))
 
 field-count-requires : tie.Need-field-count-requires Inv-loop μ-loop
 field-count-requires c κs = search needs
 
 loop-holds : tie.Need-loop-holds Inv-loop μ-loop
-unfolding record-length
-loop-holds c = (omega arith, refl, refl)
+unfolding field-offset
+loop-holds c = (refl, refl)
 
-mul-g : tie.Need-mul-g Inv-loop μ-loop
-mul-g c = omega arith
+span-of-requires : tie.Need-span-of-requires Inv-loop μ-loop
+span-of-requires c κs = search needs
 
-element-copy-out-g : tie.Need-element-copy-out-g Inv-loop μ-loop
-element-copy-out-g c = omega (arith, c .before .before .field-count .ensures)
-
-cast-length : tie.Need-cast-length Inv-loop μ-loop
-cast-length c = search needs
-
-add-put-null : tie.Need-add-put-null Inv-loop μ-loop
-add-put-null c = omega (arith, room (c .before .before), small (c .before .before))
-
-sub-put-null : tie.Need-sub-put-null Inv-loop μ-loop
-sub-put-null c = omega (arith, room (c .before .before))
-
-part-put-null-start : tie.Need-part-put-null-start Inv-loop μ-loop
-part-put-null-start c = omega (arith, room (c .before .before))
-
-part-put-null-end : tie.Need-part-put-null-end Inv-loop μ-loop
-part-put-null-end c = omega (arith, room (c .before .before))
-
-put-null-requires : tie.Need-put-null-requires Inv-loop μ-loop
-put-null-requires c κs = search needs
-
-add-at : tie.Need-add-at Inv-loop μ-loop
-add-at c = omega (arith, room (c .before .before .before .before .before .before), small (c .before .before .before .before .before .before))
+null-span-requires : tie.Need-null-span-requires Inv-loop μ-loop
+null-span-requires c κs = rw (c .before .span-of .ensures) (room (c .before .before))
 
 add-k : tie.Need-add-k Inv-loop μ-loop
-add-k c = omega (arith, c .before .before .before .before .before .before .before .before .field-count .ensures)
+add-k c = omega (arith, in-use (c .before .before .before .before .before))
 
 loop-less : tie.Need-loop-less Inv-loop μ-loop
 loop-less c = omega arith
 
 loop-again : tie.Need-loop-again Inv-loop μ-loop
 loop-again c =
-    let i = c .before .before .before .before .before .before in
+    let p = c .before .before in
+    let o = p .before .before in
+    let i = o .before in
     let l = i .before in
-    let s = entry l in
-    let g = field-at (s .args .t1) (l .loop .k) in
-    let n = field-length g in
-    let v = null-value (g .format) n in
-    let left = ap (total field-length) (next i) in
-    let part = length-part (l .loop .at) n (l .loop .content) (room i) in
-    let rest = nulls (drop (l .loop .k + 1) (fields-of (s .args .t1))) in
-    let put = c .before .before .put-null .last .1 .0 in
-    let null : put ≡ v = c .before .before .put-null .ensures ∙ ap (null-value (g .format)) part in
-    let now : patched (l .loop .at) n (l .loop .content) put ≡ sets (l .loop .content) (l .loop .at) v = rw null (patched-sets (l .loop .at) n (l .loop .content) (room i) v (null-length (g .format) n)) in
-    let turn : sets (l .loop .content) (l .loop .at) (nulls (drop (l .loop .k) (fields-of (s .args .t1)))) ≡ sets (sets (l .loop .content) (l .loop .at) v) (l .loop .at + n) rest = rw (next i, sets-append (l .loop .content) (l .loop .at) v rest, null-length (g .format) n) refl in
-    (omega (arith, left, l .loop .inv .0), ap length now ∙ length-sets (l .loop .content) (l .loop .at) v ∙ l .loop .inv .1, ap (λ (x : List ℕ). sets x (l .loop .at + n) rest) now ∙ sym turn ∙ l .loop .inv .2)
+    let f = entry l .args .f in
+    let k = l .loop .k in
+    let g = field-at f k in
+    let v = null-value (g .format) (field-length g) in
+    let rest = nulls (drop (k + 1) (fields-of f)) in
+    let next = field-next f (shape l) k (in-use i) in
+    let now : p .null-span .last .1 .0 ≡ sets (l .loop .content) (field-offset f k) v = rw (o .span-of .ensures) at (p .null-span .ensures) in
+    let turn : sets (l .loop .content) (field-offset f k) (nulls (drop k (fields-of f))) ≡ sets (sets (l .loop .content) (field-offset f k) v) (field-offset f k + field-length g) rest = rw (next, sets-append (l .loop .content) (field-offset f k) v rest, null-length (g .format) (field-length g)) refl in
+    (omega (arith, p .null-span .kept .1 .0, l .loop .inv .0), rw (now, field-follows f (shape l) k (in-use i)) (sym turn ∙ l .loop .inv .1))
 
 same-length : tie.Need-same-length Inv-loop μ-loop
-same-length c = c .before .loop .inv .1
+same-length c = c .before .loop .inv .0
 
 returns-2 : tie.Need-returns-2 Inv-loop μ-loop
 unfolding null-record
 returns-2 c =
     let l = c .before in
     let s = entry l in
-    let f = s .args .t1 in
+    let f = s .args .f in
     let fits : record-length f ≤ length (s .args .content .now) = omega (arith, l .before .before .before .record-length .ensures, l .before .before .if1 .left) in
     let none = no-field-left f (l .loop .k) (omega (arith, l .before .field-count .ensures, c .loop-test .left)) in
-    rw (le-leb (record-length f) (length (s .args .content .now)) fits) (rw none at (l .loop .inv .2))
+    rw (le-leb (record-length f) (length (s .args .content .now)) fits) (rw none at (l .loop .inv .1))
 
 pub put-nulls-spec : {M : Type 1} → statement M
 put-nulls-spec =
@@ -136,15 +109,8 @@ put-nulls-spec =
     returns
     field-count-requires
     loop-holds
-    mul-g
-    element-copy-out-g
-    cast-length
-    add-put-null
-    sub-put-null
-    part-put-null-start
-    part-put-null-end
-    put-null-requires
-    add-at
+    span-of-requires
+    null-span-requires
     add-k
     loop-less
     loop-again

@@ -3,20 +3,21 @@
 use Prim.Native.Nat.{_+_, _-_, _≤_}
 use native.Mathlib.Omega.{arith}
 use mathlib.Core.Path.{_≡_, refl, sym, ap, _∙_}
-use borrow.Author.Needs.{needs}
 use lib.Dec.{leb}
 use lib.ListN.{length, drop}
 use borrow.Author.Tests.{le-leb, lt-leb}
-use Rattle.elements.specs.Elements.{element, places, length-of, length-needed}
-use Rattle.elements.specs.Steps.{needed-step, places-end, needed-end}
+use Rattle.elements.specs.Elements.{places, length-needed}
+use Rattle.elements.specs.Steps.{places-end, needed-end}
 use Rattle.elements.specs.Laws.{needed-fits, needed-too-long}
 use Rattle.lists.specs.Tests.{and-false}
 use Rattle.layout.specs.Layout.{record-length}
 use Rattle.definition.proofs.Known.{file-known}
 use lib.Seq.{sets, length-sets}
 use Rattle.lists.specs.Parts.{sets-append}
-use Rattle.fields.specs.Fields.{found-bytes, read-out, fits, read-fields}
-use Rattle.fields.specs.Steps.{found-length, element-within, element-fits, read-turn}
+use Rattle.fields.specs.Fields.{span-bytes, read-out, fits, read-fields}
+use Rattle.fields.specs.Steps.{turn-span, turn-inside, turn-bytes, needed-turn, read-turn}
+use Rattle.fields.specs.declared.Span.{Span}
+use borrow.Author.Needs.{needs}
 use Rattle.fields.proofs.read_fields.Statement.{statement}
 use Rattle.fields.proofs.read_fields.Tie as tie
 
@@ -37,6 +38,18 @@ has-room c =
     let s = n .before .before .before .before in
     let h = needed-fits (s .args .f) (s .args .format .now) (length (s .args .buffer .now)) _ (sym (n .needed-within .ensures) ∙ c .before .before .enum-told .given .1) in
     (omega (arith, h .0, h .1), omega (arith, c .before .record-length .ensures, c .if1 .left))
+
+-- the span of the element lies in the record, and its value in the record buffer
+span-fits : (c : tie.After-span-at Inv-loop μ-loop) → let l = c .before .before in let s = entry (l .before) in
+    (c .span-at .result .start + c .span-at .result .length ≤ length (s .args .content .now)) × (l .loop .at + c .span-at .result .length ≤ length (l .loop .buffer))
+span-fits c =
+    let l = c .before .before in
+    let s = entry (l .before) in
+    let f = s .args .f in
+    let format = s .args .format .now in
+    let fits = has-room (l .before) in
+    rw (c .span-at .ensures)
+    (omega (arith, fits .1, l .loop .inv .1, turn-inside f format (l .loop .i) (file-known _ _ (s .good .0))), omega (arith, fits .0, l .loop .inv .0, l .loop .inv .1, needed-turn f format (l .loop .i)))
 
 needed-within-requires : tie.Need-needed-within-requires Inv-loop μ-loop
 needed-within-requires c κs = search needs
@@ -70,19 +83,14 @@ returns-2 c =
 loop-holds : tie.Need-loop-holds Inv-loop μ-loop
 loop-holds c = (omega arith, refl, refl)
 
-element-requires : tie.Need-element-requires Inv-loop μ-loop
-element-requires c κs = search needs
+span-at-requires : tie.Need-span-at-requires Inv-loop μ-loop
+span-at-requires c κs = search needs
 
-read-found-requires : tie.Need-read-found-requires Inv-loop μ-loop
-read-found-requires c κs =
-    let o = c .before in
-    let l = o .before .before in
-    let s = entry (l .before) in
-    let f = s .args .f in
-    let format = s .args .format .now in
-    let fits = has-room (l .before) in
-    rw (o .element .ensures)
-    (element-within f format (l .loop .i), (omega (arith, fits .1, l .loop .inv .1), element-fits f format (l .loop .i) (l .loop .at) _ (omega (arith, fits .0, l .loop .inv .0, l .loop .inv .1))))
+read-span-requires : tie.Need-read-span-requires Inv-loop μ-loop
+read-span-requires c κs = span-fits (c .before)
+
+add-at : tie.Need-add-at Inv-loop μ-loop
+add-at c = omega (arith, span-fits (c .before .before .before .before .before) .1)
 
 add-i : tie.Need-add-i Inv-loop μ-loop
 add-i c = omega arith
@@ -92,7 +100,7 @@ loop-less c = omega arith
 
 loop-again : tie.Need-loop-again Inv-loop μ-loop
 loop-again c =
-    let r = c .before .before in
+    let r = c .before .before .before in
     let o = r .before .before in
     let l = o .before .before in
     let s = entry (l .before) in
@@ -100,15 +108,15 @@ loop-again c =
     let format = s .args .format .now in
     let i = l .loop .i in
     let at = l .loop .at in
-    let x = element f format i in
+    let x = turn-span f format i in
     let content = s .args .content .now in
-    let bytes = found-bytes f x content in
+    let bytes = span-bytes x content in
     let rest = read-out f (places f (drop (i + 3) format)) content in
-    let place : r .read-found .result ≡ at + length-of f x = rw (o .element .ensures) at (r .read-found .ensures .0) in
-    let now : r .read-found .last .1 .1 .1 .0 ≡ sets (l .loop .buffer) at bytes = rw (o .element .ensures) at (r .read-found .ensures .1) in
-    let long = found-length f (file-known _ _ (s .good .0)) content (has-room (l .before) .1) x (element-within f format i) in
-    let turn : sets (l .loop .buffer) at (read-out f (places f (drop i format)) content) ≡ sets (sets (l .loop .buffer) at bytes) (at + length-of f x) rest = rw (read-turn f format i content, sets-append (l .loop .buffer) at bytes rest, long) refl in
-    (omega (arith, needed-step f format i, place, l .loop .inv .0), ap length now ∙ length-sets (l .loop .buffer) at bytes ∙ l .loop .inv .1, rw (now, place) (sym turn ∙ l .loop .inv .2))
+    let long : o .span-at .result .length ≡ x .length = ap (λ (p : Span). p .length) (o .span-at .ensures) in
+    let now : r .read-span .last .1 .1 .0 ≡ sets (l .loop .buffer) at bytes = rw (o .span-at .ensures) at (r .read-span .ensures) in
+    let whole = turn-bytes f format i (file-known _ _ (s .good .0)) content (has-room (l .before) .1) in
+    let turn : sets (l .loop .buffer) at (read-out f (places f (drop i format)) content) ≡ sets (sets (l .loop .buffer) at bytes) (at + x .length) rest = rw (read-turn f format i content, sets-append (l .loop .buffer) at bytes rest, whole) refl in
+    (omega (arith, needed-turn f format i, long, l .loop .inv .0), ap length now ∙ length-sets (l .loop .buffer) at bytes ∙ l .loop .inv .1, rw (now, long) (sym turn ∙ l .loop .inv .2))
 
 same-length : tie.Need-same-length Inv-loop μ-loop
 same-length c = c .before .loop .inv .1
@@ -137,8 +145,9 @@ read-fields-spec =
     record-length-requires
     returns-2
     loop-holds
-    element-requires
-    read-found-requires
+    span-at-requires
+    read-span-requires
+    add-at
     add-i
     loop-less
     loop-again

@@ -1,16 +1,17 @@
 -- `values_allowed` meets its contract. The loop's invariant: the values are allowed if those that are left are.
 -- Assumes nothing.
-use Rattle.fields.specs.Fields.{Within, found-allowed, allowed-in, values-allowed}
+use Rattle.fields.specs.Fields.{span-allowed, allowed-in, values-allowed}
+use Rattle.fields.specs.declared.Span.{Span}
 use Prim.Native.Nat.{_+_, _-_, _≤_}
 use native.Mathlib.Omega.{arith}
-use mathlib.Core.Path.{_≡_, refl, sym, _∙_}
-use borrow.Author.Needs.{needs}
+use mathlib.Core.Path.{_≡_, refl, sym, ap, _∙_}
 use lib.ListN.{length, drop}
 use borrow.Author.Tests.{le-leb, lt-leb, not-true, not-false}
-use Rattle.elements.specs.Elements.{element, places, length-of, length-needed}
-use Rattle.elements.specs.Steps.{needed-step, places-end}
+use Rattle.elements.specs.Elements.{places, length-needed}
+use Rattle.elements.specs.Steps.{places-end}
 use Rattle.elements.specs.Laws.{needed-fits, needed-too-long}
-use Rattle.fields.specs.Steps.{element-within, element-fits, allowed-turn}
+use Rattle.fields.specs.Steps.{turn-span, needed-turn, allowed-turn}
+use borrow.Author.Needs.{needs}
 use Rattle.fields.proofs.values_allowed.Statement.{statement}
 use Rattle.fields.proofs.values_allowed.Tie as tie
 
@@ -32,17 +33,16 @@ has-values c =
     let h = needed-fits (s .args .f) (s .args .format .now) (length (s .args .values .now)) _ (sym (n .needed-within .ensures) ∙ c .before .enum-told .given .1) in
     omega (arith, h .0, h .1)
 
-value-here : (c : tie.After-element Inv-loop μ-loop) → Within (entry (c .before .before) .args .f) (c .element .result) × (c .before .before .loop .at + length-of (entry (c .before .before) .args .f) (c .element .result) ≤ length (entry (c .before .before) .args .values .now))
+value-here : (c : tie.After-span-at Inv-loop μ-loop) → c .before .before .loop .at + c .span-at .result .length ≤ length (entry (c .before .before) .args .values .now)
 value-here c =
     let l = c .before .before in
     let s = entry l in
-    let f = s .args .f in
-    let format = s .args .format .now in
-    rw (c .element .ensures) (element-within f format (l .loop .i), element-fits f format (l .loop .i) (l .loop .at) (length (s .args .values .now)) (omega (arith, has-values l, l .loop .inv .0)))
+    rw (c .span-at .ensures) (omega (arith, has-values l, l .loop .inv .0, needed-turn (s .args .f) (s .args .format .now) (l .loop .i)))
 
 -- what was judged of it
-judged : (c : tie.After-allowed-found Inv-loop μ-loop) → c .allowed-found .result ≡ found-allowed (entry (c .before .before .before) .args .f) (element (entry (c .before .before .before) .args .f) (entry (c .before .before .before) .args .format .now) (c .before .before .before .loop .i)) (drop (c .before .before .before .loop .at) (entry (c .before .before .before) .args .values .now))
-judged c = rw (c .before .element .ensures) at (c .allowed-found .ensures)
+judged : (c : tie.After-allowed-span Inv-loop μ-loop) → let l = c .before .before .before in let s = entry l in
+    c .allowed-span .result ≡ span-allowed (turn-span (s .args .f) (s .args .format .now) (l .loop .i)) (drop (l .loop .at) (s .args .values .now))
+judged c = rw (c .before .span-at .ensures) at (c .allowed-span .ensures)
 
 needed-within-requires : tie.Need-needed-within-requires Inv-loop μ-loop
 needed-within-requires c κs = search needs
@@ -64,11 +64,11 @@ returns c =
 loop-holds : tie.Need-loop-holds Inv-loop μ-loop
 loop-holds c = (omega arith, refl)
 
-element-requires : tie.Need-element-requires Inv-loop μ-loop
-element-requires c κs = search needs
+span-at-requires : tie.Need-span-at-requires Inv-loop μ-loop
+span-at-requires c κs = search needs
 
-allowed-found-requires : tie.Need-allowed-found-requires Inv-loop μ-loop
-allowed-found-requires c κs = value-here c
+allowed-span-requires : tie.Need-allowed-span-requires Inv-loop μ-loop
+allowed-span-requires c κs = value-here c
 
 returns-2 : tie.Need-returns-2 Inv-loop μ-loop
 unfolding values-allowed
@@ -82,11 +82,8 @@ returns-2 c =
     let no = sym (judged (c .before)) ∙ not-true _ (c .if1 .taken) in
     rw (le-leb (length-needed f format) (length values) (has-values l), l .loop .inv .1, allowed-turn f format (l .loop .i) values (l .loop .at), no)
 
-length-of-requires : tie.Need-length-of-requires Inv-loop μ-loop
-length-of-requires c κs = value-here (c .before .before) .0
-
 add-at : tie.Need-add-at Inv-loop μ-loop
-add-at c = omega (arith, value-here (c .before .before .before) .1, c .length-of .ensures)
+add-at c = omega (arith, value-here (c .before .before .before))
 
 add-i : tie.Need-add-i Inv-loop μ-loop
 add-i c = omega arith
@@ -102,11 +99,10 @@ loop-again c =
     let f = s .args .f in
     let format = s .args .format .now in
     let values = s .args .values .now in
-    let x = element f format (l .loop .i) in
-    let long : c .length-of .result ≡ length-of f x = rw (o .element .ensures) at (c .length-of .ensures) in
+    let long : o .span-at .result .length ≡ turn-span f format (l .loop .i) .length = ap (λ (p : Span). p .length) (o .span-at .ensures) in
     let yes = sym (judged (c .before .before)) ∙ not-false _ (c .before .if1 .left) in
     let turn = rw yes at (allowed-turn f format (l .loop .i) values (l .loop .at)) in
-    (omega (arith, needed-step f format (l .loop .i), long, l .loop .inv .0), rw long (l .loop .inv .1 ∙ turn))
+    (omega (arith, needed-turn f format (l .loop .i), long, l .loop .inv .0), rw long (l .loop .inv .1 ∙ turn))
 
 returns-3 : tie.Need-returns-3 Inv-loop μ-loop
 unfolding values-allowed
@@ -129,10 +125,9 @@ values-allowed-spec =
     enum-told-2
     returns
     loop-holds
-    element-requires
-    allowed-found-requires
+    span-at-requires
+    allowed-span-requires
     returns-2
-    length-of-requires
     add-at
     add-i
     loop-less

@@ -2,18 +2,20 @@
 -- Assumes nothing.
 use Prim.Native.Nat.{_+_, _-_, _≤_}
 use native.Mathlib.Omega.{arith}
-use mathlib.Core.Path.{_≡_, refl, sym, _∙_}
-use borrow.Author.Needs.{needs}
+use mathlib.Core.Path.{_≡_, refl, sym, ap, _∙_}
 use lib.Dec.{leb}
 use lib.ListN.{length, drop}
 use borrow.Author.Tests.{le-leb, lt-leb}
-use Rattle.elements.specs.Elements.{element, places, length-of, length-needed}
-use Rattle.elements.specs.Steps.{needed-step, places-end}
+use Rattle.elements.specs.Elements.{places, length-needed}
+use Rattle.elements.specs.Steps.{places-end}
 use Rattle.elements.specs.Laws.{needed-fits, needed-too-long}
 use Rattle.lists.specs.Tests.{and-false}
 use Rattle.layout.specs.Layout.{record-length}
-use Rattle.fields.specs.Fields.{found-written, write-in, fits, write-fields}
-use Rattle.fields.specs.Steps.{element-within, element-fits, write-turn}
+use Rattle.definition.proofs.Known.{file-known}
+use Rattle.fields.specs.Fields.{span-written, write-in, fits, write-fields}
+use Rattle.fields.specs.Steps.{turn-span, turn-inside, needed-turn, write-turn}
+use Rattle.fields.specs.declared.Span.{Span}
+use borrow.Author.Needs.{needs}
 use Rattle.fields.proofs.write_fields.Statement.{statement}
 use Rattle.fields.proofs.write_fields.Tie as tie
 
@@ -34,6 +36,18 @@ has-room c =
     let s = n .before .before .before .before in
     let h = needed-fits (s .args .f) (s .args .format .now) (length (s .args .values .now)) _ (sym (n .needed-within .ensures) ∙ c .before .before .enum-told .given .1) in
     (omega (arith, h .0, h .1), omega (arith, c .before .record-length .ensures, c .if1 .left))
+
+-- the span of the element lies in the record, and its value in the record buffer
+span-fits : (c : tie.After-span-at Inv-loop μ-loop) → let l = c .before .before in let s = entry (l .before) in
+    (c .span-at .result .start + c .span-at .result .length ≤ length (l .loop .content)) × (l .loop .at + c .span-at .result .length ≤ length (s .args .values .now))
+span-fits c =
+    let l = c .before .before in
+    let s = entry (l .before) in
+    let f = s .args .f in
+    let format = s .args .format .now in
+    let fits = has-room (l .before) in
+    rw (c .span-at .ensures)
+    (omega (arith, fits .1, l .loop .inv .1, turn-inside f format (l .loop .i) (file-known _ _ (s .good .0))), omega (arith, fits .0, l .loop .inv .0, l .loop .inv .1, needed-turn f format (l .loop .i)))
 
 needed-within-requires : tie.Need-needed-within-requires Inv-loop μ-loop
 needed-within-requires c κs = search needs
@@ -67,19 +81,14 @@ returns-2 c =
 loop-holds : tie.Need-loop-holds Inv-loop μ-loop
 loop-holds c = (omega arith, refl, refl)
 
-element-requires : tie.Need-element-requires Inv-loop μ-loop
-element-requires c κs = search needs
+span-at-requires : tie.Need-span-at-requires Inv-loop μ-loop
+span-at-requires c κs = search needs
 
-write-found-requires : tie.Need-write-found-requires Inv-loop μ-loop
-write-found-requires c κs =
-    let o = c .before in
-    let l = o .before .before in
-    let s = entry (l .before) in
-    let f = s .args .f in
-    let format = s .args .format .now in
-    let fits = has-room (l .before) in
-    rw (o .element .ensures)
-    (element-within f format (l .loop .i), (omega (arith, fits .1, l .loop .inv .1), element-fits f format (l .loop .i) (l .loop .at) _ (omega (arith, fits .0, l .loop .inv .0, l .loop .inv .1))))
+write-span-requires : tie.Need-write-span-requires Inv-loop μ-loop
+write-span-requires c κs = span-fits (c .before)
+
+add-at : tie.Need-add-at Inv-loop μ-loop
+add-at c = omega (arith, span-fits (c .before .before .before .before .before) .1)
 
 add-i : tie.Need-add-i Inv-loop μ-loop
 add-i c = omega arith
@@ -89,7 +98,7 @@ loop-less c = omega arith
 
 loop-again : tie.Need-loop-again Inv-loop μ-loop
 loop-again c =
-    let r = c .before .before in
+    let r = c .before .before .before in
     let o = r .before .before in
     let l = o .before .before in
     let s = entry (l .before) in
@@ -97,12 +106,12 @@ loop-again c =
     let format = s .args .format .now in
     let i = l .loop .i in
     let at = l .loop .at in
-    let x = element f format i in
+    let x = turn-span f format i in
     let values = s .args .values .now in
-    let place : r .write-found .result ≡ at + length-of f x = rw (o .element .ensures) at (r .write-found .ensures .0) in
-    let now : r .write-found .last .1 .1 .1 .0 ≡ found-written f x (drop at values) (l .loop .content) = rw (o .element .ensures) at (r .write-found .ensures .1) in
+    let long : o .span-at .result .length ≡ x .length = ap (λ (p : Span). p .length) (o .span-at .ensures) in
+    let now : r .write-span .last .1 .1 .0 ≡ span-written x (drop at values) (l .loop .content) = rw (o .span-at .ensures) at (r .write-span .ensures) in
     let turn = write-turn f format i values at (l .loop .content) in
-    (omega (arith, needed-step f format i, place, l .loop .inv .0), omega (arith, r .write-found .kept .1 .1 .1 .0, l .loop .inv .1), rw (now, place) (sym turn ∙ l .loop .inv .2))
+    (omega (arith, needed-turn f format i, long, l .loop .inv .0), omega (arith, r .write-span .kept .1 .1 .0, l .loop .inv .1), rw (now, long) (sym turn ∙ l .loop .inv .2))
 
 same-length : tie.Need-same-length Inv-loop μ-loop
 same-length c = c .before .loop .inv .1
@@ -131,8 +140,9 @@ write-fields-spec =
     record-length-requires
     returns-2
     loop-holds
-    element-requires
-    write-found-requires
+    span-at-requires
+    write-span-requires
+    add-at
     add-i
     loop-less
     loop-again

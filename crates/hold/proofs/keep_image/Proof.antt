@@ -9,6 +9,7 @@ use lib.ListN.{length}
 use borrow.Author.Tests.{le-leb, lt-leb, leb-true, not-true, not-false}
 use Rattle.hold.specs.Hold.{keep-image}
 use Rattle.lists.specs.Parts.{length-part, patched-sets}
+use Rattle.slices.specs.Laws.{copied-whole}
 use borrow.Author.Needs.{needs}
 use Rattle.hold.proofs.keep_image.Statement.{statement}
 use Rattle.hold.proofs.keep_image.Tie as tie
@@ -48,9 +49,7 @@ part-copy-end : tie.Need-part-copy-end
 part-copy-end c = omega (arith, room c)
 
 copy-requires : tie.Need-copy-requires
-copy-requires c κs =
-    let a = c .before .before .before .before .before .before .args in
-    sym (length-part (a .at * a .width) (length (a .content .now)) (a .images .now) (omega (arith, room (c .before))))
+copy-requires c κs = search needs
 
 same-length : tie.Need-same-length
 same-length c = search needs
@@ -61,7 +60,8 @@ returns-3 c =
     let o = c .before .before .before .before in
     let a = o .before .before .before .before .before .args in
     let yes = sym (o .before .fits-at .ensures) ∙ not-false _ (o .if2 .left) in
-    rw (le-leb _ _ (o .before .before .if1 .left), yes, c .before .before .copy .ensures)
+    let whole = copied-whole _ _ (sym (length-part (a .at * a .width) (length (a .content .now)) (a .images .now) (omega (arith, room o)))) in
+    rw (le-leb _ _ (o .before .before .if1 .left), yes, c .before .before .copy .ensures ∙ whole)
     (patched-sets (a .at * a .width) (length (a .content .now)) (a .images .now) (omega (arith, room o)) (a .content .now) refl)
 
 pub keep-image-spec : {M : Type 1} → statement M

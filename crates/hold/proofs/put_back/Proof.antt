@@ -9,11 +9,10 @@ use Rattle.definition.specs.Table.{file-at, file-count}
 use Rattle.definition.specs.Shape.{DefinitionShape}
 use Rattle.definition.proofs.Known.{definition-known}
 use Rattle.layout.specs.Layout.{file-size, file-offset, store-size, place}
-use Rattle.layout.specs.Laws.{place-found, file-within}
+use Rattle.layout.specs.Laws.{place-found, file-follows, file-within}
 use Rattle.layout.specs.declared.Found.the-variants.{At}
 use Rattle.store.specs.Store.{file-part, with-part}
 use Rattle.hold.specs.Hold.{put-back}
-use Rattle.hold.specs.Parts.{offset-next}
 use borrow.Author.Needs.{needs}
 use Rattle.hold.proofs.put_back.Statement.{statement}
 use Rattle.hold.proofs.put_back.Tie as tie
@@ -37,7 +36,7 @@ ends c =
     let k = c .before .before .before in
     let i = k .before .found .given .0 .0 in
     let d = entry k .args .t1 in
-    let next = offset-next d (shape k) i (inside k) in (
+    let next = file-follows d (shape k) i (inside k) in (
       omega (arith, next, c .file-offset2 .ensures, c .before .file-offset .ensures),
       omega (arith, next, c .file-offset2 .ensures, file-within d (shape k) i (inside k), k .before .before .before .before .if1 .left, k .before .before .before .before .before .store-size .ensures),
     )

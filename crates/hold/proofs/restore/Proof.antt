@@ -58,20 +58,17 @@ room c =
     let m : l .loop .i + 1 ≤ a .count = omega (arith, c .loop-test .taken) in
     omega (arith, fits, mul-le-mul-right (a .width) m)
 
-mul-unpack : tie.Need-mul-unpack Inv-loop μ-loop
-mul-unpack c = omega arith
-
-shared-slice-read-unpack : tie.Need-shared-slice-read-unpack Inv-loop μ-loop
-shared-slice-read-unpack c = omega arith
-
-unpack-requires : tie.Need-unpack-requires Inv-loop μ-loop
-unpack-requires c κs = search needs
-
 mul-start : tie.Need-mul-start Inv-loop μ-loop
-mul-start c = omega (arith, room (c .before .before))
+mul-start c = omega (arith, room c)
+
+mul-put-back-of : tie.Need-mul-put-back-of Inv-loop μ-loop
+mul-put-back-of c = omega arith
+
+shared-slice-read-put-back-of : tie.Need-shared-slice-read-put-back-of Inv-loop μ-loop
+shared-slice-read-put-back-of c = omega arith
 
 add-put-back-of : tie.Need-add-put-back-of Inv-loop μ-loop
-add-put-back-of c = omega (arith, room (c .before .before))
+add-put-back-of c = omega (arith, room (c .before))
 
 sub-put-back-of : tie.Need-sub-put-back-of Inv-loop μ-loop
 sub-put-back-of c = search needs
@@ -80,7 +77,7 @@ part-put-back-of-start : tie.Need-part-put-back-of-start Inv-loop μ-loop
 part-put-back-of-start c = search needs
 
 part-put-back-of-end : tie.Need-part-put-back-of-end Inv-loop μ-loop
-part-put-back-of-end c = omega (arith, room (c .before .before))
+part-put-back-of-end c = omega (arith, room (c .before))
 
 put-back-of-requires : tie.Need-put-back-of-requires Inv-loop μ-loop
 put-back-of-requires c κs = search needs
@@ -94,15 +91,14 @@ loop-less c = omega arith
 loop-again : tie.Need-loop-again Inv-loop μ-loop
 loop-again c =
     let r = c .before .before in
-    let u = r .before .before .before in
-    let l = u .before .before .before in
+    let l = r .before .before .before .before .before in
     let a = l .before .before .before .before .before .before .before .args in
     let i = l .loop .i in
     let e = unpack-of (getD (a .queue .now) i 0) in
     let rest = drop (i + 1) (entries (a .queue .now) (a .count)) in
     let next = entry-next (a .queue .now) (a .count) i (omega arith) in
     let one = turn (a .d) (a .width) (a .user) i e rest (a .images .now) (l .loop .store) in
-    let now : r .put-back-of .last .1 .1 .1 .1 .0 ≡ put-back-of (a .d) (a .user) e (take (a .width) (drop (i * a .width) (a .images .now))) (l .loop .store) = rw (u .unpack .ensures, part-take (i * a .width) (a .width) (a .images .now)) at (r .put-back-of .ensures) in
+    let now : r .put-back-of .last .1 .1 .1 .1 .0 ≡ put-back-of (a .d) (a .user) e (take (a .width) (drop (i * a .width) (a .images .now))) (l .loop .store) = rw (part-take (i * a .width) (a .width) (a .images .now)) at (r .put-back-of .ensures) in
     (omega arith, omega (arith, r .put-back-of .kept .1 .1 .1 .1 .0, l .loop .inv .1), rw now (sym one ∙ rw next at (l .loop .inv .2)))
 
 same-length : tie.Need-same-length Inv-loop μ-loop
@@ -127,10 +123,9 @@ restore-spec =
     returns
     least-requires
     loop-holds
-    mul-unpack
-    shared-slice-read-unpack
-    unpack-requires
     mul-start
+    mul-put-back-of
+    shared-slice-read-put-back-of
     add-put-back-of
     sub-put-back-of
     part-put-back-of-start

@@ -2,7 +2,8 @@
 use Prim.Native.Nat.{_+_}
 use mathlib.Core.Path.{ap, _∙_}
 use lib.ListN.{length}
-use Rattle.images.specs.Lists.{same, part-short}
+use Rattle.lists.specs.Tests.{eqbs}
+use Rattle.lists.specs.Parts.{part-least}
 use borrow.Author.Needs.{needs}
 use Rattle.images.proofs.has_at.Statement.{statement}
 use Rattle.images.proofs.has_at.Tie as tie
@@ -35,8 +36,8 @@ returns : tie.Need-returns
 returns c =
     let m = c .before .before in
     let a = m .before .before .before .before .args in
-    let part = part-short (a .s .now) (a .offset) (length (a .value .now)) (m .before .least .result) (m .before .least .result + m .least2 .result) (m .before .least .ensures) (ap (λ k. m .before .least .result + k) (m .least2 .ensures)) in
-    c .same .ensures ∙ ap (λ l. same l (a .value .now)) part
+    let part = part-least (a .s .now) (a .offset) (length (a .value .now)) (m .before .least .result) (m .before .least .result + m .least2 .result) (m .before .least .ensures) (ap (λ k. m .before .least .result + k) (m .least2 .ensures)) in
+    c .same .ensures ∙ ap (λ l. eqbs l (a .value .now)) part
 
 pub has-at-spec : {M : Type 1} → statement M
 has-at-spec =

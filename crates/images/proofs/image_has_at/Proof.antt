@@ -7,7 +7,7 @@ use borrow.Author.Tests.{leb-true, leb-false, not-true, not-false}
 use lib.ListN.{length, take, drop, drop-of-length-le}
 use lib.Seq.{take-nil}
 use Rattle.images.specs.Images.{has-at}
-use Rattle.images.specs.Lists.{part-short}
+use Rattle.lists.specs.Parts.{part-least}
 use borrow.Author.Needs.{needs}
 use Rattle.images.proofs.image_has_at.Statement.{statement}
 use Rattle.images.proofs.image_has_at.Tie as tie
@@ -60,7 +60,7 @@ returns-2 c =
     let m = c .before .before in
     let a = m .before .before .before .before .before .args in
     let start : a .i * a .width ≡ min (a .i * a .width) (length (a .images .now)) = omega (arith, room (m .before)) in
-    let part = part-short (a .images .now) (a .i * a .width) (a .width) (a .i * a .width) (a .i * a .width + m .least .result) start (ap (λ k. a .i * a .width + k) (m .least .ensures)) in
+    let part = part-least (a .images .now) (a .i * a .width) (a .width) (a .i * a .width) (a .i * a .width + m .least .result) start (ap (λ k. a .i * a .width + k) (m .least .ensures)) in
     c .has-at2 .ensures ∙ ap (has-at (a .offset) (a .value .now)) part
 
 pub image-has-at-spec : {M : Type 1} → statement M

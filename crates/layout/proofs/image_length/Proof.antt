@@ -2,7 +2,6 @@
 -- Assumes nothing.
 use Prim.Native.Nat.{_-_, _≤_, max}
 use mathlib.Core.Path.{_≡_, ap}
-use mathlib.Core.Logic.{⊎-elim}
 use native.Mathlib.Omega.{arith}
 use borrow.Author.Needs.{needs}
 use lib.ListN.{drop}
@@ -35,6 +34,9 @@ element-copy-out-f c = omega arith
 record-length-requires : tie.Need-record-length-requires Inv-loop μ-loop
 record-length-requires c κs = search needs
 
+greatest-requires : tie.Need-greatest-requires Inv-loop μ-loop
+greatest-requires c κs = search needs
+
 add-i : tie.Need-add-i Inv-loop μ-loop
 add-i c = omega arith
 
@@ -45,7 +47,7 @@ loop-again : tie.Need-loop-again Inv-loop μ-loop
 loop-again c =
     let l = c .before .before .before .before in
     let e = ap (maximum record-length) (file-next (l .before .before .args .t1) (definition-known _ _ (l .before .before .good .0)) (l .loop .i) (omega arith)) in
-    ⊎-elim (λ w. omega (arith, e)) (λ w. omega (arith, e)) (c .if1 .came)
+    omega (arith, e, c .greatest .ensures)
 
 returns : tie.Need-returns Inv-loop μ-loop
 unfolding image-length
@@ -65,6 +67,7 @@ image-length-spec =
     mul-f
     element-copy-out-f
     record-length-requires
+    greatest-requires
     add-i
     loop-less
     loop-again

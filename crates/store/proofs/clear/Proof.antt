@@ -4,7 +4,7 @@ use Prim.Native.Nat.{_+_, _-_, _*_, _≤_}
 use native.Mathlib.Omega.{arith}
 use mathlib.Core.Path.{_≡_, refl}
 use lib.ListN.{length, length-set}
-use Rattle.store.specs.Lists.{from-to, from-to-more, from-to-none}
+use Rattle.lists.specs.Numbers.{from-to, from-to-more, from-to-none}
 use Rattle.store.specs.Store.{cleared}
 use Rattle.store.specs.Slots.{slot-next, slot-room}
 use Rattle.store.proofs.clear.Statement.{statement}

@@ -18,7 +18,6 @@ use Rattle.store.proofs.elsewhere.Lts as lts
 use Rattle.definition.proofs.field_count.Reads as field-count-reads
 use Rattle.layout.proofs.field_offset.Reads as field-offset-reads
 use Rattle.layout.proofs.slot_length.Reads as slot-length-reads
-use Rattle.store.proofs.field_length.Reads as field-length-reads
 use Rattle.store.proofs.other_has.Reads as other-has-reads
 use Rattle.store.proofs.slot_count.Reads as slot-count-reads
 

@@ -2,19 +2,28 @@
 -- Assumes nothing.
 use Prim.Native.Nat.{ℕ, _+_, _-_}
 use native.Mathlib.Omega.{arith}
-use mathlib.Core.Path.{_≡_, refl, _∙_}
+use mathlib.Core.Path.{_≡_, refl, sym, _∙_}
 use borrow.Author.Needs.{needs}
+use Rattle.lists.specs.Parts.{length-part}
+use Rattle.slices.specs.Laws.{copied-whole}
 use lib.ListN.{length, set, length-set}
-use Rattle.store.specs.Lists.{patch-set, length-patch}
+use Rattle.lists.specs.Pieces.{patch-set, length-patch}
 use Rattle.store.proofs.fill.Statement.{statement}
 use Rattle.store.proofs.fill.Tie as tie
 use Rattle.store.proofs.fill.Reads as reads
 use Rattle.store.proofs.fill.Lts as lts
-use Rattle.store.proofs.copy.Reads as copy-reads
 
 -- the part that was lent has as many bytes as were given
 lent : (at n : ℕ) → at + 1 + n - (at + 1) ≡ n
 lent at n = omega arith
+
+-- what was copied is what was given
+given : (c : tie.After-copy) → c .copy .last .1 .0 ≡ c .before .before .before .before .args .bytes .now
+given c =
+    let s = c .before .before .before .before in
+    let at = s .args .at in
+    let n = length (s .args .bytes .now) in
+    c .copy .ensures ∙ copied-whole _ _ (sym (length-part (at + 1) n (set (s .args .part .now) at 1) (simp length-set (s .pre))))
 
 slice-write-part : tie.Need-slice-write-part
 slice-write-part c = search needs
@@ -42,13 +51,13 @@ same-length c =
     let s = c .before .before .before .before .before .before in
     let at = s .args .at in
     let n = length (s .args .bytes .now) in
-    rw (c .before .before .copy .ensures, lent at n)
+    rw (given (c .before .before), lent at n)
     (length-patch (at + 1) n (set (s .args .part .now) at 1) (s .args .bytes .now) (simp length-set (s .pre)) refl ∙ length-set (s .args .part .now) at 1)
 
 returns : tie.Need-returns
 returns c =
     let s = c .before .before .before .before .before .before in
-    rw (c .before .before .copy .ensures, lent (s .args .at) (length (s .args .bytes .now)))
+    rw (given (c .before .before), lent (s .args .at) (length (s .args .bytes .now)))
     (patch-set (s .args .at) (length (s .args .bytes .now)) (s .args .part .now) 1 (s .args .bytes .now) (omega arith))
 
 pub fill-spec : {M : Type 1} → statement M

@@ -7,7 +7,7 @@ use mathlib.Core.List.{_∷_}
 use lib.Dec.{eqb}
 use borrow.Author.Tests.{eq-eqb, ne-eqb}
 use lib.ListN.{length, getD}
-use Rattle.store.specs.Lists.{from-to, from-to-more, from-to-none}
+use Rattle.lists.specs.Numbers.{from-to, from-to-more, from-to-none}
 use Rattle.store.specs.Store.{recorded, first-of}
 use Rattle.store.specs.Slots.{slot-next, slot-room, recorded-here}
 use Rattle.store.proofs.first_record.Statement.{statement}

@@ -10,7 +10,6 @@ use Rattle.store.proofs.has_field.Statement.{statement}
 use Rattle.store.proofs.has_field.Tie as tie
 use Rattle.store.proofs.has_field.Reads as reads
 use Rattle.store.proofs.has_field.Lts as lts
-use Rattle.store.proofs.same.Reads as same-reads
 
 shared-slice-read-if1 : tie.Need-shared-slice-read-if1
 shared-slice-read-if1 c = search needs

@@ -3,7 +3,7 @@
 use native.Mathlib.Omega.{arith}
 use borrow.Author.Needs.{needs}
 use lib.ListN.{length}
-use Rattle.store.specs.Lists.{from-to-more}
+use Rattle.lists.specs.Numbers.{from-to-more}
 use Rattle.store.specs.Store.{slot-count, has-record, lowest}
 use Rattle.store.specs.Slots.{count-room}
 use Rattle.store.proofs.lowest.Statement.{statement}

@@ -11,7 +11,7 @@ use borrow.Author.Tests.{eq-eqb, ne-eqb}
 use lib.ListN.{length}
 use Rattle.lists.specs.Tests.{and-false}
 use Rattle.lists.specs.Folds.{any}
-use Rattle.store.specs.Lists.{from-to, from-to-more, from-to-none}
+use Rattle.lists.specs.Numbers.{from-to, from-to-more, from-to-none}
 use Rattle.store.specs.Store.{held, has-field}
 use Rattle.store.specs.Slots.{slot-next, slot-room, held-here}
 use Rattle.store.proofs.other_has.Statement.{statement}

@@ -6,7 +6,7 @@ use Prim.Native.Nat.{_+_, _-_, _≤_}
 use mathlib.Core.Path.{_≡_, refl, sym, _∙_}
 use native.Mathlib.Omega.{arith}
 use Rattle.lists.specs.Folds.{any}
-use Rattle.values.specs.Lists.{drop-more}
+use Rattle.lists.specs.Rest.{drop-more}
 use Rattle.values.specs.Values.{not-zero, halves}
 use Rattle.values.proofs.any_not_zero.Statement.{statement}
 use Rattle.values.proofs.any_not_zero.Tie as tie

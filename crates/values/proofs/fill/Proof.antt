@@ -5,7 +5,7 @@ use mathlib.Core.Path.{_≡_, refl, _∙_}
 use native.Mathlib.Omega.{arith}
 use lib.ListN.{length, take, drop, replicate, length-set, length-replicate, getD-replicate}
 use mathlib.Core.List.{_++_}
-use Rattle.values.specs.Lists.{write-more, write-all}
+use Rattle.lists.specs.Rest.{write-more, write-all}
 use Rattle.values.proofs.fill.Statement.{statement}
 use Rattle.values.proofs.fill.Tie as tie
 use Rattle.values.proofs.fill.Reads as reads

@@ -6,7 +6,7 @@ use native.Mathlib.Omega.{arith}
 use lib.ListN.{length, drop, drop-of-length-le}
 use borrow.Author.Tests.{le-leb, lt-leb}
 use Rattle.lists.specs.Folds.{all}
-use Rattle.values.specs.Lists.{drop-more}
+use Rattle.lists.specs.Rest.{drop-more}
 use Rattle.values.specs.Values.{digit, halves}
 use Rattle.values.proofs.halves_allowed.Statement.{statement}
 use Rattle.values.proofs.halves_allowed.Tie as tie

@@ -6,7 +6,7 @@ use native.Mathlib.Omega.{arith}
 use lib.ListN.{length}
 use lib.Seq.{length-take-le}
 use borrow.Author.Tests.{not-true, not-false, le-leb, lt-leb}
-use Rattle.values.specs.Lists.{empty}
+use Rattle.lists.specs.Rest.{empty}
 use Rattle.values.specs.Values.{allowed}
 use Rattle.values.specs.Laws.{all-digits}
 use borrow.Author.Needs.{needs}

@@ -4,7 +4,7 @@ use Prim.Native.Nat.{_-_}
 use mathlib.Core.Path.{sym, ap, _∙_}
 use native.Mathlib.Omega.{arith}
 use lib.ListN.{length}
-use Rattle.values.specs.Lists.{empty}
+use Rattle.lists.specs.Rest.{empty}
 use Rattle.values.specs.Values.{stored}
 use Rattle.values.specs.Laws.{stored-sign-below}
 use Rattle.definition.specs.declared.Format.the-variants.{Packed}

@@ -1,12 +1,13 @@
 -- `put_stored` meets its contract: what was copied is put into stored form.
 -- Assumes nothing.
+use mathlib.Core.Path.{_∙_}
 use borrow.Author.Tests.{eq-eqb, ne-eqb}
 use borrow.Author.Needs.{needs}
+use Rattle.slices.specs.Laws.{copied-whole}
 use Rattle.values.proofs.put_stored.Statement.{statement}
 use Rattle.values.proofs.put_stored.Tie as tie
 use Rattle.values.proofs.put_stored.Reads as reads
 use Rattle.values.proofs.put_stored.Lts as lts
-use Rattle.values.proofs.copy.Reads as copy-reads
 use Rattle.values.proofs.put_form.Reads as put-form-reads
 
 returns : tie.Need-returns
@@ -24,7 +25,7 @@ same-length c = search needs
 returns-2 : tie.Need-returns-2
 returns-2 c =
     let p = c .before .before .before .before .before .before in
-    rw (eq-eqb _ _ (p .before .before .if1 .left), ← (p .copy .ensures)) (c .before .before .put-form .ensures)
+    rw (eq-eqb _ _ (p .before .before .if1 .left), ← (p .copy .ensures ∙ copied-whole _ _ (p .before .before .if1 .left))) (c .before .before .put-form .ensures)
 
 pub put-stored-spec : {M : Type 1} → statement M
 put-stored-spec =

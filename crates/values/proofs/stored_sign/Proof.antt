@@ -7,7 +7,7 @@ use lib.ListN.{length}
 use lib.Seq.{length-take-le}
 use borrow.Author.Tests.{not-true, not-false, ne-eqb, eq-eqb}
 use mathlib.Core.Bool.{or-true}
-use Rattle.values.specs.Lists.{empty}
+use Rattle.lists.specs.Rest.{empty}
 use Rattle.values.specs.Values.{below-zero}
 use Rattle.values.specs.Laws.{any-digits}
 use borrow.Author.Needs.{needs}

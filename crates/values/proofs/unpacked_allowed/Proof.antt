@@ -6,7 +6,7 @@ use native.Mathlib.Omega.{arith}
 use lib.ListN.{length, drop, drop-of-length-le}
 use Rattle.lists.specs.Tests.{within-inside, within-below, within-above}
 use Rattle.lists.specs.Folds.{all}
-use Rattle.values.specs.Lists.{drop-more}
+use Rattle.lists.specs.Rest.{drop-more}
 use Rattle.values.specs.Values.{unpacked-digit}
 use Rattle.values.proofs.unpacked_allowed.Statement.{statement}
 use Rattle.values.proofs.unpacked_allowed.Tie as tie
