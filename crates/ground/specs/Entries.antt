@@ -21,7 +21,6 @@ use Rattle.entries.specs.Laws.{Shape}
 use Rattle.queue.specs.Laws.{is-held, entries-append}
 use Rattle.entries.specs.declared.Entry.{Entry}
 use Rattle.queue.specs.declared.Lookup.the-variants.{Held, Free}
-use Rattle.lists.specs.Sift.{sift as sift-holds}
 use Rattle.images.specs.Images.{stays, fits, remove-queue, remove-images, remove-count, hold-of, with-images}
 use Rattle.images.specs.Laws.{with-images-append, with-images-remove}
 use Rattle.images.specs.declared.Removal.{Removal}
@@ -63,12 +62,12 @@ module _ (d : Definition) where
   Says p r e = (image : List ℕ) → p (held d (hold-of e image)) ≡ r e
 
   sift-held : (p : MachineEntry → Bool) (r : Entry → Bool) (es : List Entry) → Each (Says p r) es → (images : List ℕ)
-      → map (held d) (sift-holds (λ h. r (h .entry)) (with-images (image-length d) es images)) ≡ sift p (holds-of d es images)
+      → map (held d) (sift (λ h. r (h .entry)) (with-images (image-length d) es images)) ≡ sift p (holds-of d es images)
   sift-held p r [] h images = refl
   sift-held p r (e ∷ es) h images = go (outcome (r e)) (sift-held p r es (h .1) (drop (image-length d) images))
     where
-      go : Outcome (r e) → map (held d) (sift-holds (λ h. r (h .entry)) (with-images (image-length d) es (drop (image-length d) images))) ≡ sift p (holds-of d es (drop (image-length d) images))
-          → map (held d) (sift-holds (λ h. r (h .entry)) (with-images (image-length d) (e ∷ es) images)) ≡ sift p (holds-of d (e ∷ es) images)
+      go : Outcome (r e) → map (held d) (sift (λ h. r (h .entry)) (with-images (image-length d) es (drop (image-length d) images))) ≡ sift p (holds-of d es (drop (image-length d) images))
+          → map (held d) (sift (λ h. r (h .entry)) (with-images (image-length d) (e ∷ es) images)) ≡ sift p (holds-of d (e ∷ es) images)
       go (holds t) i = rw (h .0 (take (image-length d) images), t) (ap (λ l. held d (hold-of e (take (image-length d) images)) ∷ l) i)
       go (fails t) i = rw (h .0 (take (image-length d) images), t) i
 

@@ -27,7 +27,7 @@ use Rattle.images.specs.Laws.{remove-count-most, length-remove-queue, length-re
 use Rattle.images.specs.declared.Removal.{Removal}
 use Rattle.hold.specs.Hold.{keep-image, settled, first-change-queue, first-change-images, restore}
 use Rattle.transactions.specs.Slots.{Slot}
-use Rattle.ground.specs.Lists.{all-over, distinct-over, distinct-sift, sift-is}
+use Rattle.ground.specs.Lists.{all-over, distinct-over, distinct-sift}
 use Rattle.ground.specs.Keys.{known}
 use Rattle.ground.specs.Store.{put}
 use Rattle.ground.specs.StoreLaws.{put-room}
@@ -95,7 +95,7 @@ module _ (d : Definition) (capacity : ℕ) (store words images : List ℕ) (coun
   unfolding repeated
   made-remove which =
       let f = made-fits d capacity store words images count m in
-      let es = entries-remove words images count (image-length d) which f ∙ sift-is (stays which) (entries words count) in
+      let es = entries-remove words images count (image-length d) which f in
       record {
         store-room = m .store-room;
         queue-room = rw (length-remove-queue words images count (image-length d) which f) (m .queue-room);

@@ -11,8 +11,6 @@ use Rattle.lists.specs.Tests.{not-both, Outcome, holds, fails, outcome, and-lef
 use Rattle.lists.specs.Folds.{all, any, distinct, Each}
 use Rattle.lists.specs.Sift.{keep, sift}
 use Rattle.lists.specs.Numbers.{numbers}
-use Rattle.images.specs.Lists.{same}
-use Rattle.lists.specs.Sift.{sift as sift-images}
 
 -- two tests that hold together
 pub both-ways : (a b : Bool) → (a ≡ true → b ≡ true) → (b ≡ true → a ≡ true) → a ≡ b
@@ -68,11 +66,11 @@ elem-map f n (x ∷ l) h = go (outcome (eqb n x)) (elem-map f n l)
 pub eqb-comm : (m n : ℕ) → eqb m n ≡ eqb n m
 eqb-comm m n = both-ways (eqb m n) (eqb n m) (λ h. eq-eqb n m (sym (eqb-true m n h))) (λ h. eq-eqb m n (sym (eqb-true n m h)))
 
-pub eqbs-same : (a b : List ℕ) → same a b ≡ eqbs b a
-eqbs-same [] [] = refl
-eqbs-same [] (y ∷ ys) = refl
-eqbs-same (x ∷ xs) [] = refl
-eqbs-same (x ∷ xs) (y ∷ ys) = rw (eqb-comm x y, eqbs-same xs ys)
+pub eqbs-comm : (a b : List ℕ) → eqbs a b ≡ eqbs b a
+eqbs-comm [] [] = refl
+eqbs-comm [] (y ∷ ys) = refl
+eqbs-comm (x ∷ xs) [] = refl
+eqbs-comm (x ∷ xs) (y ∷ ys) = rw (eqb-comm x y, eqbs-comm xs ys)
 
 pub eqbs-true : (a b : List ℕ) → eqbs a b ≡ true → a ≡ b
 eqbs-true [] [] h = refl
@@ -164,12 +162,3 @@ module _ {A : Type 0} where
       go : (b : Bool) → distinct like (sift p l) ≡ true → distinct like (keep b x (sift p l)) ≡ true
       go true i = rw (any-left p (like x) l (not-true (any (like x) l) (and-left (not (any (like x) l)) (distinct like l) h))) i
       go false i = i
-
-  -- `sift`, as `images` says it
-  pub sift-is : (p : A → Bool) (l : List A) → sift-images p l ≡ sift p l
-  sift-is p [] = refl
-  sift-is p (x ∷ l) = go (outcome (p x)) (sift-is p l)
-    where
-      go : Outcome (p x) → sift-images p l ≡ sift p l → sift-images p (x ∷ l) ≡ sift p (x ∷ l)
-      go (holds t) i = rw t (ap (λ r. x ∷ r) i)
-      go (fails t) i = rw t i

@@ -26,7 +26,7 @@ use Rattle.store.specs.Store.{field-value}
 use Rattle.images.specs.Images.{has-at, image-has}
 use Rattle.transactions.specs.Slots.{Slot}
 use Rattle.transactions.specs.Machine.{Entry as MachineEntry, of-user, at-key, held-by-other, clash}
-use Rattle.ground.specs.Lists.{eqb-comm, eqbs-same, any-each, each-with, each-fails, each-sift, any-never, any-swap}
+use Rattle.ground.specs.Lists.{eqb-comm, eqbs-comm, any-each, each-with, each-fails, each-sift, any-never, any-swap}
 use Rattle.ground.specs.Keys.{key-file, file-of, file-of-key}
 use Rattle.ground.specs.Queue.{holds-of, queue-of}
 use Rattle.ground.specs.Reading.{Small, entries-small}
@@ -51,7 +51,7 @@ module _ (d : Definition) (file : ℕ) (s : FileShape (file-of d file)) where
     has-at-is image =
         let front = piece-piece (field-offset f j) (field-length (field-at f j)) 0 (record-length f) image (field-within f s j in-use) in
         let z : 0 + field-offset f j ≡ field-offset f j = omega arith in
-        rw (size, rw z at front) (eqbs-same _ v)
+        rw (size, rw z at front) (eqbs-comm _ v)
 
     entry-test : (u c g x : Bool) (image : List ℕ) (t : Bool) → (g ≡ true → t ≡ eqbs v (field-value f j image))
         → (not u && (g && (c && x)) && t) ≡ (c && not u && g && has-value f j v (cond c (cond x (some image) none) none))

@@ -21,7 +21,6 @@ use Rattle.images.specs.declared.Removal.the-variants.{All}
 use Rattle.entries.specs.declared.Entry.{Entry}
 use Rattle.transactions.specs.Machine.{Laws, Machine, end, back-out, allowed}
 use Rattle.transactions.specs.Theorems.{Invariant, kept-act}
-use Rattle.ground.specs.Lists.{sift-is}
 use Rattle.ground.specs.Keys.{isn-bound}
 use Rattle.ground.specs.Ground.{laws}
 use Rattle.ground.specs.Queue.{Made}
@@ -131,7 +130,6 @@ module _ (capacity : ℕ) (lent : List ℕ) (n : Nucleus) (j : Journal) (k : Kep
   unfolding removed
   entries-left =
       entries-remove (n .queue) (n .images) (n .state .count) (width-of n) (All u) (made-fits d capacity (n .store) (n .queue) (n .images) (n .state .count) (k .sized .made))
-      ∙ sift-is (stays (All u)) (entries-of n)
 
   -- the table and what was lent, with what is left of the queue
   sized-left : (store : List ℕ) → Made d capacity store (n .queue) (n .images) (n .state .count) → Sized capacity d store (removed (All u) n .queue) (removed (All u) n .images) (removed (All u) n .state .count)

@@ -16,7 +16,6 @@ use Rattle.queue.specs.Queue.{holder}
 use Rattle.entries.specs.declared.Entry.{Entry}
 use Rattle.queue.specs.declared.Lookup.{Lookup}
 use Rattle.queue.specs.declared.Lookup.the-variants.{Held, Free}
-use Rattle.images.specs.Lists as images
 use Rattle.images.specs.Images.{stays, fits}
 use Rattle.images.specs.Laws.{remove-count-most, length-remove-queue, length-remove-images, entries-remove}
 use Rattle.images.specs.declared.Removal.{Removal}
@@ -39,15 +38,6 @@ MadeIn capacity n = Made (definition-of n) capacity (n .store) (n .queue) (n .im
 
 -- ---- what is left of a list (`lists`, Sift)
 module _ {A : Type 0} where
-  -- the two `sift`s, of `images` and of `lists`
-  pub sift-same : (p : A → Bool) (xs : List A) → images.sift p xs ≡ sift p xs
-  sift-same p [] = refl
-  sift-same p (x ∷ xs) = go (p x) (sift-same p xs)
-    where
-      go : (b : Bool) → images.sift p xs ≡ sift p xs → cond b (x ∷ images.sift p xs) (images.sift p xs) ≡ keep b x (sift p xs)
-      go true i = ap (λ l. x ∷ l) i
-      go false i = i
-
   -- what no element passes, none passes that is left
   pub any-keeps : (f p : A → Bool) (xs : List A) → any f xs ≡ false → any f (sift p xs) ≡ false
   any-keeps f p [] h = refl
@@ -87,7 +77,7 @@ module _ (n : Nucleus) (capacity : ℕ) (made : MadeIn capacity n) where
     -- what stays, in order
     pub entries-removed : entries-of (removed which n) ≡ sift (stays which) (entries-of n)
     unfolding removed
-    entries-removed = entries-remove (n .queue) (n .images) (n .state .count) (width-of n) which room ∙ sift-same (stays which) (entries-of n)
+    entries-removed = entries-remove (n .queue) (n .images) (n .state .count) (width-of n) which room
 
     pub removed-queue-length : length (removed which n .queue) ≡ length (n .queue)
     unfolding removed
