@@ -61,6 +61,18 @@ pub fn machine(list: &List) -> Result<Machine, String> {
     .map_err(|response| format!("set-up answers {response}"))
 }
 
+/// Runs a list: the answer of each call with the record buffer after it, and the nucleus at the end.
+pub fn run(list: &List) -> Result<(Vec<(Answer, Vec<u8>)>, Machine), String> {
+    let mut machine = machine(list)?;
+    let mut answer = |list_call: &ListCall| {
+        let mut record = list_call.record.clone();
+        let answer = machine.call(&list_call.call, &list_call.format, &mut record);
+        (answer, record)
+    };
+    let answers = list.calls.iter().map(&mut answer).collect();
+    Ok((answers, machine))
+}
+
 /// Runs a list and compares; counts its responses. The error says what differs after which call.
 pub fn check_list(list: &List, counts: &mut Counts) -> Result<(), String> {
     let mut machine = machine(list)?;
@@ -80,7 +92,7 @@ pub fn check_list(list: &List, counts: &mut Counts) -> Result<(), String> {
     check_back_outs(&machine, &journal).map_err(|error| format!("seed {}: {error}", list.seed))
 }
 
-fn label(machine: &Machine, call: &Call, answer: &Answer) -> String {
+pub fn label(machine: &Machine, call: &Call, answer: &Answer) -> String {
     if answer.response != 113 {
         return answer.response.to_string();
     }

@@ -5,6 +5,8 @@
 //! are tools for tests: a nucleus that owns its buffers, random call lists, their comparison with the journal, and
 //! the reader of the vector file.
 
+pub mod any_state;
+pub mod arguments;
 pub mod compare;
 pub mod context;
 pub mod definition;
@@ -18,4 +20,5 @@ pub mod random;
 pub mod responses;
 pub mod state;
 pub mod store;
+pub mod terms;
 pub mod vectors;

@@ -46,7 +46,7 @@ impl Random {
 }
 
 /// One call of a list, with its buffers as brought.
-#[derive(Clone, Debug)]
+#[derive(Clone, Debug, PartialEq)]
 pub struct ListCall {
     pub call: Call,
     pub format: Vec<u8>,

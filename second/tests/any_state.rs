@@ -3,13 +3,14 @@
 
 mod common;
 use common::{file, two_files, GOOD_CALLS};
+use second::any_state;
 use second::compare;
-use second::definition::{read_table, Definition, Field};
+use second::definition::Definition;
 use second::hold::Entry;
 use second::machine::Machine;
 use second::nucleus::set_up;
-use second::random::{self, ListCall, Random};
-use second::state::{is_well_made, lent_too_short, Answer, Call, State, User, COMMANDS};
+use second::random::Random;
+use second::state::{is_well_made, lent_too_short, Answer, Call, State};
 use second::store::store_size;
 use second::vectors;
 
@@ -294,181 +295,6 @@ fn r12_not() {
 
 // Random states
 
-/// A random machine, and whether it was left well made and large enough.
-fn random_machine(random: &mut Random) -> (Machine, bool) {
-    let mut machine = well_made_machine(random);
-    if random.once_in(2) {
-        return (machine, true);
-    }
-    for _ in 0..random.between(1, 3) {
-        spoil(random, &mut machine);
-    }
-    (machine, false)
-}
-
-fn well_made_machine(random: &mut Random) -> Machine {
-    let table = random::table(random);
-    let definition = read_table(&table).expect("valid");
-    let capacity = random.pick(&[1, 2, 3, 4, 6, 256]);
-    let spare = random.below(4) as usize;
-    let mut machine = Machine {
-        state: random_state(random, definition),
-        capacity,
-        store: (0..store_size(&definition) + spare)
-            .map(|_| random.pick(&[0, 1, 1, b'0', b' ', 0x0F, 0x0C, 0xFF]))
-            .collect(),
-        queue: (0..capacity as usize + spare)
-            .map(|_| random_entry(random))
-            .collect(),
-        images: (0..capacity as usize * definition.greatest_record_length() + spare)
-            .map(|_| random.pick(&[0, 1, b'0', b' ', 0x0F]))
-            .collect(),
-    };
-    hold_some(random, &mut machine);
-    machine
-}
-
-fn random_entry(random: &mut Random) -> Entry {
-    Entry {
-        user: random.below(5) as u8,
-        file: random.below(18) as u8,
-        isn: random.below(7) as u16,
-        changed: random.once_in(2),
-        existed: random.once_in(2),
-    }
-}
-
-fn random_state(random: &mut Random, mut definition: Definition) -> State {
-    for file in definition.files.iter_mut() {
-        for place in usize::from(file.count)..16 {
-            file.fields[place] = Field {
-                name: *b"AA",
-                length: random.number() as u8,
-                format: random.number() as u8,
-                option: b'U',
-            };
-        }
-    }
-    let mut state = State::fresh(definition);
-    state.clock = random.below(1000) as u32;
-    for user in &mut state.users {
-        *user = random_user(random, state.clock);
-    }
-    for mark in &mut state.last_assigned {
-        *mark = random.number() as u16;
-    }
-    for file in definition.used_files() {
-        let mark = random.between(0, u64::from(file.max_isn)) as u16;
-        state.last_assigned[usize::from(file.number) - 1] = mark;
-    }
-    state
-}
-
-fn random_user(random: &mut Random, clock: u32) -> User {
-    let in_transaction = random.once_in(3);
-    let mut user = User {
-        session: in_transaction || random.once_in(2),
-        hold_limit: random.pick(&[0, 1, 2, 64, u16::MAX]),
-        time_limit: random.pick(&[0, 5, 900, 900, 900, u16::MAX]),
-        sequence: random.pick(&[0, 7, u32::MAX - 1, u32::MAX]),
-        access_only: random.once_in(8),
-        in_transaction,
-        begun: random.number() as u32,
-        overdue: random.once_in(12),
-        et_length: random.pick(&[0, 1, 64]),
-        et_data: [random.number() as u8; 64],
-    };
-    if in_transaction {
-        user.begun = clock - random.below(u64::from(clock) + 1) as u32;
-    }
-    user
-}
-
-/// Fills the front of the queue with entries of users in a transaction, each of another ISN.
-fn hold_some(random: &mut Random, machine: &mut Machine) {
-    let holders = machine.in_transaction();
-    let mut isns: Vec<(u8, u16)> = machine
-        .state
-        .definition
-        .used_files()
-        .iter()
-        .flat_map(|file| (1..=file.max_isn).map(|isn| (file.number, isn)))
-        .collect();
-    let wanted = random.between(0, u64::from(machine.capacity)) as usize;
-    while !holders.is_empty() && !isns.is_empty() && (machine.state.entries as usize) < wanted {
-        let (file, isn) = isns.swap_remove(random.below(isns.len() as u64) as usize);
-        machine.queue[machine.state.entries as usize] = Entry {
-            user: random.pick(&holders),
-            file,
-            isn,
-            ..random_entry(random)
-        };
-        machine.state.entries += 1;
-    }
-}
-
-/// Changes one thing, which may or may not break a rule.
-fn spoil(random: &mut Random, machine: &mut Machine) {
-    let place = random.below(machine.queue.len() as u64 + 1) as usize;
-    let user = random.below(32) as usize;
-    let definition = &mut machine.state.definition;
-    match random.below(16) {
-        0 => machine.capacity = random.pick(&[0, 257, u32::MAX]),
-        1 => machine.capacity = random.between(1, 8) as u32,
-        2 => machine.queue.truncate(place),
-        3 => drop(machine.store.pop()),
-        4 => machine.store.truncate(place),
-        5 => drop(machine.images.pop()),
-        6 => machine.images.truncate(place),
-        7 => machine.state.entries = random.pick(&[1, 2, 256, 257, u32::MAX]),
-        8 => definition.count = random.number() as u8,
-        9 => definition.files[0].count = random.number() as u8,
-        10 => definition.files[0].max_isn = random.number() as u16,
-        11 => definition.files[0].number = random.below(18) as u8,
-        12 => definition.files[0].fields[0].length = random.number() as u8,
-        13 => machine.state.users[user].et_length = random.number() as u8,
-        14 => machine.state.users[user].in_transaction = random.once_in(2),
-        _ => {
-            if let Some(entry) = machine.queue.first_mut() {
-                *entry = random_entry(random);
-            }
-        }
-    }
-}
-
-fn random_call(random: &mut Random, machine: &Machine) -> ListCall {
-    let files = machine.state.definition.used_files();
-    let number = match files {
-        [] => 1,
-        _ => random.pick(files).number,
-    };
-    let call = Call {
-        command: random.pick(&COMMANDS).1,
-        option: random.pick(b"      IHA"),
-        user: random.between(1, 6) as u8,
-        file: number,
-        isn: random.below(6) as u16,
-        limit: random.below(3) as u16,
-        clock: random.below(2000) as u32,
-    };
-    let format = random.pick(&[
-        &b"AA."[..],
-        b"AB,AA.",
-        b"AA,AA.",
-        b"AC.",
-        b"AD,AC,AB,AA.",
-        b"",
-    ]);
-    let record = (0..random.pick(&[0, 1, 2, 4, 8, 64, 65]))
-        .map(|_| random.pick(&[0, 1, b'0', b'1', b' ', 0x0F, 0x0C, 0x1D]))
-        .collect();
-    ListCall {
-        call,
-        format: format.to_vec(),
-        record,
-    }
-}
-
 /// Random calls on random states and buffers: no panic, and what must hold of each call.
 #[test]
 fn random_states() {
@@ -476,8 +302,8 @@ fn random_states() {
     let mut refused = [0; 2];
     let mut done = 0;
     for _ in 0..150_000 {
-        let (before, good) = random_machine(&mut random);
-        let list_call = random_call(&mut random, &before);
+        let (before, good) = any_state::machine(&mut random);
+        let list_call = any_state::call(&mut random, &before);
         let mut after = before.clone();
         let mut record = list_call.record.clone();
         let answer = after.call(&list_call.call, &list_call.format, &mut record);

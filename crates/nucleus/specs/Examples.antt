@@ -1,10 +1,12 @@
--- Document 01, 'Marked for proof': rows of a table that the definitions themselves give, checked by one law.
+-- Document 01, 'Marked for proof': rows of a table that the definitions themselves give, checked by one law. Behind the marked ones stand rows
+-- for 'Errors a good builder makes'.
 -- Assumes nothing.
 use Prim.Native.Nat.{ℕ, _*_}
 use mathlib.Core.Path.{_≡_, refl}
-use mathlib.Core.List.{List, [], _∷_, map}
+use mathlib.Core.List.{List, [], _∷_}
 use Prim.Native.String.{String}
 use lib.ListN.{replicate}
+use Rattle.lists.specs.Folds.{Each}
 use Rattle.definition.specs.declared.Format.the-variants.{Packed}
 use Rattle.layout.specs.Layout.{record-length, field-offset, file-offset, store-size, image-length, place}
 use Rattle.validity.specs.Validity.{valid, file-valid, field-valid, name-valid}
@@ -74,6 +76,50 @@ house-calls =
 one-table : List ℕ
 one-table = 0x01 ∷ 0x01 ∷ 0x00 ∷ 0x01 ∷ 0x02 ∷ 0x52 ∷ 0x43 ∷ 0x01 ∷ 0x41 ∷ 0x55 ∷ 0x02 ∷ 0x48 ∷ 0x48 ∷ 0x02 ∷ 0x41 ∷ 0x20 ∷ 0x00 ∷ []
 
+-- a file of highest ISN 3 with one field, PA, packed, two bytes, unique
+packed-table : List ℕ
+packed-table = 0x01 ∷ 0x01 ∷ 0x00 ∷ 0x03 ∷ 0x02 ∷ 0x50 ∷ 0x41 ∷ 0x02 ∷ 0x50 ∷ 0x55 ∷ 0x00 ∷ []
+
+-- user 1 empties a record, and user 2 asks for its unique value before and after the ET of user 1
+given-up-calls : List Given
+given-up-calls =
+    given "N1" blank 1 0 0 (text "RC,HH.") (text "2AB") ∷
+    given "ET" blank 1 0 0 [] [] ∷
+    given "E1" option-H 1 1 0 [] [] ∷
+    given "N1" blank 2 0 0 (text "RC.") (text "2") ∷
+    given "ET" blank 1 0 0 [] [] ∷
+    given "N1" blank 2 0 0 (text "RC.") (text "2") ∷ []
+
+-- two changes of one entry, and a back-out
+changed-twice-calls : List Given
+changed-twice-calls =
+    given "N1" blank 1 0 0 (text "RC,HH.") (text "2AB") ∷
+    given "ET" blank 1 0 0 [] [] ∷
+    given "A1" option-H 1 1 0 (text "RC.") (text "3") ∷
+    given "A1" blank 1 1 0 (text "HH.") (text "CD") ∷
+    given "BT" blank 1 0 0 [] [] ∷
+    given "L1" blank 1 1 0 (text "RC,HH.") (text "...") ∷ []
+
+-- N1 by the holder of an ISN that he emptied, and by another user before and after his ET
+emptied-calls : List Given
+emptied-calls =
+    given "N1" blank 1 0 0 (text "RC.") (text "2") ∷
+    given "ET" blank 1 0 0 [] [] ∷
+    given "E1" option-H 1 1 0 [] [] ∷
+    given "N1" blank 1 0 0 (text "RC.") (text "3") ∷
+    given "N1" blank 2 0 0 (text "RC.") (text "3") ∷
+    given "ET" blank 1 0 0 [] [] ∷
+    given "N1" blank 2 0 0 (text "RC.") (text "3") ∷ []
+
+-- 1 with sign C, with F, and with D; 0 with D and with C
+packed-calls : List Given
+packed-calls =
+    given "N1" blank 1 0 0 (text "PA.") (0x00 ∷ 0x1C ∷ []) ∷
+    given "N1" blank 1 0 0 (text "PA.") (0x00 ∷ 0x1F ∷ []) ∷
+    given "N1" blank 1 0 0 (text "PA.") (0x00 ∷ 0x1D ∷ []) ∷
+    given "N1" blank 1 0 0 (text "PA.") (0x00 ∷ 0x0D ∷ []) ∷
+    given "A1" blank 1 1 0 (text "PA.") (0x00 ∷ 0x0C ∷ []) ∷ []
+
 -- ---- the rows
 record Row : Type 0 where
   given-by : List (List ℕ)
@@ -102,8 +148,29 @@ rows =
     record {
       given-by = printed one-table (given "HI" blank 1 1 0 [] [] ∷ given "N1" blank 1 0 0 (text "RC,HH.") (text "2AB") ∷ []);
       marked = text "0 1 0 0" ∷ text "75 0 0 0" ∷ [];
+    } ∷
+    -- "Freeing a given-up unique value before ET"
+    record {
+      given-by = printed house-table given-up-calls;
+      marked = text "0 1 0 0" ∷ text "0 0 1 1" ∷ text "0 1 0 0" ∷ text "198 0 0 0" ∷ text "0 0 1 2" ∷ text "0 2 0 0" ∷ [];
+    } ∷
+    -- "Renewing an image at the second change": the back-out brings back what the first change found
+    record {
+      given-by = printed house-table changed-twice-calls;
+      marked = text "0 1 0 0" ∷ text "0 0 1 1" ∷ text "0 1 0 0" ∷ text "0 1 0 0" ∷ text "0 0 1 0" ∷ text "0 1 3 0 324142" ∷ [];
+    } ∷
+    -- "Giving N1 an ISN that its holder has just emptied"
+    record {
+      given-by = printed one-table emptied-calls;
+      marked = text "0 1 0 0" ∷ text "0 0 1 1" ∷ text "0 1 0 0" ∷ text "75 0 0 0" ∷ text "75 0 0 0" ∷ text "0 0 1 2" ∷ text "0 1 0 0" ∷ [];
+    } ∷
+    -- "Judging uniqueness before P is put in stored form"
+    record {
+      given-by = printed packed-table packed-calls;
+      marked = text "0 1 0 0" ∷ text "198 0 0 0" ∷ text "0 2 0 0" ∷ text "0 3 0 0" ∷ text "198 0 0 0" ∷ [];
     } ∷ []
 
-given-as-marked : map (λ r. r .given-by) rows ≡ map (λ r. r .marked) rows
-unfolding house-table house-calls one-table rows record-length field-offset file-offset store-size image-length place valid file-valid field-valid name-valid format-of option-of file-item field-item item-of read-from read-table stored below-zero allowed null-value field-named format-valid element places named-twice length-needed needed-within fits read-fields write-fields values-allowed null-record slot-fits has-record get lowest elsewhere put-record empty fresh file-part with-part pack-of unpack-of entries holder held-by repeated append change closed images.remove-queue images.remove-images images.remove-count images.image-has keep-image settled first-change-queue first-change-images put-back-in put-back restore command-of has-option too-short well-made removed backed-out clocked target rows-first overdue-mark ends-active access-refused file-unknown isn-invalid format-refused field-twice record-length-refused value-refused none-found held-elsewhere presence-refused not-held release-refused file-full limit-reached queue-full new-record value-taken held imaged written erased effect-at perform serve step set-up line
-given-as-marked = refl
+-- a `refl` for each row: one for all rows computes several times as long
+given-as-marked : Each (λ r. r .given-by ≡ r .marked) rows
+unfolding house-table house-calls one-table packed-table given-up-calls changed-twice-calls emptied-calls packed-calls rows record-length field-offset file-offset store-size image-length place valid file-valid field-valid name-valid format-of option-of file-item field-item item-of read-from read-table stored below-zero allowed null-value field-named format-valid element places named-twice length-needed needed-within fits read-fields write-fields values-allowed null-record slot-fits has-record get lowest elsewhere put-record empty fresh file-part with-part pack-of unpack-of entries holder held-by repeated append change closed images.remove-queue images.remove-images images.remove-count images.image-has keep-image settled first-change-queue first-change-images put-back-in put-back restore command-of has-option too-short well-made removed backed-out clocked target rows-first overdue-mark ends-active access-refused file-unknown isn-invalid format-refused field-twice record-length-refused value-refused none-found held-elsewhere presence-refused not-held release-refused file-full limit-reached queue-full new-record value-taken held imaged written erased effect-at perform serve step set-up line
+given-as-marked = (refl, (refl, (refl, (refl, (refl, (refl, (refl, (refl, (refl, (refl, tt))))))))))

@@ -1,6 +1,7 @@
 //! Random call lists as text, one line a call, with the answers of this implementation; or how often each response
 //! comes. The README has the format of the lines.
 
+use second::arguments;
 use second::compare::{self, Counts};
 use second::house::hex;
 use second::random::{self, List, ListCall};
@@ -12,26 +13,17 @@ const USAGE: &str = "usage: lists SEED [COUNT] | lists --counts FIRST LAST";
 fn main() -> ExitCode {
     let arguments: Vec<String> = std::env::args().skip(1).collect();
     let words: Vec<&str> = arguments.iter().map(String::as_str).collect();
-    let done = match words[..] {
-        ["--counts", first, last] => numbers(first, last).and_then(|(a, b)| print_counts(a, b)),
-        [seed] => numbers(seed, "1").and_then(|(seed, count)| print_lists(seed, count)),
-        [seed, count] => numbers(seed, count).and_then(|(seed, count)| print_lists(seed, count)),
-        _ => Err(USAGE.to_string()),
+    let (print, first, second): (fn(u64, u64) -> Result<(), String>, _, _) = match words[..] {
+        ["--counts", first, last] => (print_counts, first, last),
+        [seed] => (print_lists, seed, "1"),
+        [seed, count] => (print_lists, seed, count),
+        _ => (print_lists, "", ""),
     };
-    match done {
-        Ok(()) => ExitCode::SUCCESS,
-        Err(error) => {
-            eprintln!("{error}");
-            ExitCode::FAILURE
-        }
-    }
-}
-
-fn numbers(first: &str, second: &str) -> Result<(u64, u64), String> {
-    match (first.parse(), second.parse()) {
-        (Ok(first), Ok(second)) => Ok((first, second)),
-        _ => Err(USAGE.to_string()),
-    }
+    let done = match arguments::numbers(first, second) {
+        Some((first, second)) => print(first, second),
+        None => Err(USAGE.to_string()),
+    };
+    arguments::exit_code(done)
 }
 
 fn print_lists(seed: u64, count: u64) -> Result<(), String> {
@@ -46,7 +38,7 @@ fn print_lists(seed: u64, count: u64) -> Result<(), String> {
 }
 
 fn list_text(list: &List) -> Result<String, String> {
-    let mut machine = compare::machine(list)?;
+    let (answers, _) = compare::run(list)?;
     let mut text = format!(
         "list seed={} table={} capacity={} store={} queue={} images={} fill={:02X}\n",
         list.seed,
@@ -57,9 +49,7 @@ fn list_text(list: &List) -> Result<String, String> {
         list.images,
         compare::FILL,
     );
-    for list_call in &list.calls {
-        let mut after = list_call.record.clone();
-        let answer = machine.call(&list_call.call, &list_call.format, &mut after);
+    for (list_call, (answer, after)) in list.calls.iter().zip(&answers) {
         text += &format!(
             "call {} -> {} {} {} {} after={}\n",
             call_text(list_call),
@@ -67,7 +57,7 @@ fn list_text(list: &List) -> Result<String, String> {
             answer.isn,
             answer.quantity,
             answer.sequence,
-            hex(&after)
+            hex(after)
         );
     }
     Ok(text)

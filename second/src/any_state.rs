@@ -1,0 +1,228 @@
+//! Random states that nobody set up, good and bad, with lent buffers of any size; a call for each; and tables that may
+//! break a rule.
+
+use crate::definition::{self, Definition, Field, MAX_FIELDS, MAX_FILES};
+use crate::hold::Entry;
+use crate::machine::Machine;
+use crate::random::{self, ListCall, Random};
+use crate::state::{Call, State, User, COMMANDS};
+use crate::store;
+
+/// A random machine, and whether it was left well made and large enough.
+pub fn machine(random: &mut Random) -> (Machine, bool) {
+    let mut machine = well_made_machine(random);
+    if random.once_in(2) {
+        return (machine, true);
+    }
+    for _ in 0..random.between(1, 3) {
+        spoil(random, &mut machine);
+    }
+    (machine, false)
+}
+
+fn well_made_machine(random: &mut Random) -> Machine {
+    let table = random::table(random);
+    let definition = definition::read_table(&table).expect("valid");
+    let capacity = random.pick(&[1, 2, 3, 4, 6, 256]);
+    let spare = random.below(4) as usize;
+    let mut machine = Machine {
+        state: random_state(random, definition),
+        capacity,
+        store: (0..store::store_size(&definition) + spare)
+            .map(|_| random.pick(&[0, 1, 1, b'0', b' ', 0x0F, 0x0C, 0xFF]))
+            .collect(),
+        queue: (0..capacity as usize + spare)
+            .map(|_| random_entry(random))
+            .collect(),
+        images: (0..capacity as usize * definition.greatest_record_length() + spare)
+            .map(|_| random.pick(&[0, 1, b'0', b' ', 0x0F]))
+            .collect(),
+    };
+    hold_some(random, &mut machine);
+    machine
+}
+
+fn random_entry(random: &mut Random) -> Entry {
+    Entry {
+        user: random.below(5) as u8,
+        file: random.below(18) as u8,
+        isn: random.below(7) as u16,
+        changed: random.once_in(2),
+        existed: random.once_in(2),
+    }
+}
+
+/// Places past a count have anything: fields with the name of another or one of their own, and one file more, like the
+/// first.
+fn fill_unused(random: &mut Random, definition: &mut Definition) {
+    let used = definition.used_files().len();
+    definition.files[used] = definition.files[0];
+    for file in &mut definition.files[..=used] {
+        for place in usize::from(file.count)..MAX_FIELDS {
+            file.fields[place] = Field {
+                name: random.pick(&[*b"AA", [b'Z', b'A' + place as u8]]),
+                length: random.pick(&[0, 1, 2, 15, 16, 255]),
+                format: random.pick(b"ABUP"),
+                option: random.pick(b"UD "),
+            };
+        }
+    }
+}
+
+fn random_state(random: &mut Random, mut definition: Definition) -> State {
+    fill_unused(random, &mut definition);
+    let mut state = State::fresh(definition);
+    state.clock = random.below(1000) as u32;
+    for user in &mut state.users {
+        *user = random_user(random, state.clock);
+    }
+    for mark in &mut state.last_assigned {
+        *mark = random.number() as u16;
+    }
+    for file in definition.used_files() {
+        let mark = random.between(0, u64::from(file.max_isn)) as u16;
+        state.last_assigned[usize::from(file.number) - 1] = mark;
+    }
+    state
+}
+
+fn random_user(random: &mut Random, clock: u32) -> User {
+    let in_transaction = random.once_in(3);
+    let mut user = User {
+        session: in_transaction || random.once_in(2),
+        hold_limit: random.pick(&[0, 1, 2, 64, u16::MAX]),
+        time_limit: random.pick(&[0, 5, 900, 900, 900, u16::MAX]),
+        sequence: random.pick(&[0, 7, u32::MAX - 1, u32::MAX]),
+        access_only: random.once_in(8),
+        in_transaction,
+        begun: random.number() as u32,
+        overdue: random.once_in(12),
+        et_length: random.pick(&[0, 1, 64]),
+        et_data: [random.number() as u8; 64],
+    };
+    if in_transaction {
+        user.begun = clock - random.below(u64::from(clock) + 1) as u32;
+    }
+    user
+}
+
+/// Fills the front of the queue with entries of users in a transaction, each of another ISN.
+fn hold_some(random: &mut Random, machine: &mut Machine) {
+    let holders = machine.in_transaction();
+    let mut isns: Vec<(u8, u16)> = machine
+        .state
+        .definition
+        .used_files()
+        .iter()
+        .flat_map(|file| (1..=file.max_isn).map(|isn| (file.number, isn)))
+        .collect();
+    let wanted = random.between(0, u64::from(machine.capacity)) as usize;
+    while !holders.is_empty() && !isns.is_empty() && (machine.state.entries as usize) < wanted {
+        let (file, isn) = isns.swap_remove(random.below(isns.len() as u64) as usize);
+        machine.queue[machine.state.entries as usize] = Entry {
+            user: random.pick(&holders),
+            file,
+            isn,
+            ..random_entry(random)
+        };
+        machine.state.entries += 1;
+    }
+}
+
+/// Changes one thing, which may or may not break a rule.
+fn spoil(random: &mut Random, machine: &mut Machine) {
+    let place = random.below(machine.queue.len() as u64 + 1) as usize;
+    let user = random.below(32) as usize;
+    let definition = &mut machine.state.definition;
+    match random.below(19) {
+        0 => machine.capacity = random.pick(&[0, 257, u32::MAX]),
+        1 => machine.capacity = random.between(1, 8) as u32,
+        2 => machine.queue.truncate(place),
+        3 => drop(machine.store.pop()),
+        4 => machine.store.truncate(place),
+        5 => drop(machine.images.pop()),
+        6 => machine.images.truncate(place),
+        7 => machine.state.entries = random.pick(&[1, 2, 256, 257, u32::MAX]),
+        8 => definition.count = random.number() as u8,
+        9 => definition.files[0].count = random.number() as u8,
+        10 => definition.files[0].max_isn = random.number() as u16,
+        11 => definition.files[0].number = random.below(18) as u8,
+        12 => definition.files[0].fields[0].length = random.number() as u8,
+        13 => machine.state.users[user].et_length = random.number() as u8,
+        14 => machine.state.users[user].in_transaction = random.once_in(2),
+        15 => machine.state.users[user].session = false,
+        16 => machine.state.last_assigned[place % MAX_FILES] = random.below(7) as u16,
+        17 => machine.state.clock = random.below(1000) as u32,
+        _ => {
+            if let Some(entry) = machine.queue.first_mut() {
+                *entry = random_entry(random);
+            }
+        }
+    }
+}
+
+pub fn call(random: &mut Random, machine: &Machine) -> ListCall {
+    let files = machine.state.definition.used_files();
+    let number = match files {
+        [] => 1,
+        _ => random.pick(files).number,
+    };
+    let call = Call {
+        command: random.pick(&COMMANDS).1,
+        option: random.pick(b"      IHA"),
+        user: random.between(1, 6) as u8,
+        file: number,
+        isn: random.below(6) as u16,
+        limit: random.below(3) as u16,
+        clock: random.below(2000) as u32,
+    };
+    let format = random.pick(&[
+        &b"AA."[..],
+        b"AB,AA.",
+        b"AA,AA.",
+        b"AC.",
+        b"AD,AC,AB,AA.",
+        b"",
+    ]);
+    let record = (0..random.pick(&[0, 1, 2, 4, 8, 64, 65]))
+        .map(|_| random.pick(&[0, 1, b'0', b'1', b' ', 0x0F, 0x0C, 0x1D]))
+        .collect();
+    ListCall {
+        call,
+        format: format.to_vec(),
+        record,
+    }
+}
+
+/// A table that may break a rule: a valid one with one or two bytes changed, cut short, or with bytes or items too many.
+pub fn table(random: &mut Random) -> Vec<u8> {
+    let mut table = random::table(random);
+    for _ in 0..random.between(1, 2) {
+        let place = random.below(table.len() as u64) as usize;
+        match random.below(8) {
+            0 => table.truncate(place),
+            1 => table.push(random.pick(&[0, 1, 2, 255])),
+            2 => drop(table.remove(place)),
+            3 => table.insert(place, random.pick(&[0, 1, 2, b'A'])),
+            4 => table.splice(..0, random::table(random)).for_each(drop),
+            5 => table.splice(..0, items(random)).for_each(drop),
+            _ => table[place] = random.pick(&[0, 1, 2, 16, 17, b' ', b'9', b'A', b'Z', b'a', 255]),
+        }
+        if table.is_empty() {
+            break;
+        }
+    }
+    table
+}
+
+/// The items of a file that is at or past a limit: fields, bytes together, or the greatest length of a format.
+fn items(random: &mut Random) -> Vec<u8> {
+    let mut items = vec![definition::FILE_ITEM, 16, 0x0F, 0xFF];
+    let (format, greatest) = random.pick(&[(b'A', 253), (b'B', 126), (b'U', 29), (b'P', 15)]);
+    for name in 0..random.pick(&[1, 2, 3, 16, 17]) {
+        items.extend([definition::FIELD_ITEM, b'B', b'A' + name]);
+        items.push(greatest - random.below(2) as u8 + random.below(2) as u8);
+        items.extend([format, b' ']);
+    }
+    items
+}

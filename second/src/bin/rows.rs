@@ -1,0 +1,125 @@
+//! Calls and what this implementation makes of them, as an antt module of laws: the definitions of crates/nucleus
+//! compute the same. For each seed a random list, one call on a state that nobody set up, and a set-up.
+
+use second::any_state;
+use second::arguments;
+use second::compare::{self, Counts};
+use second::definition;
+use second::hold::Entry;
+use second::nucleus;
+use second::random::{self, Random};
+use second::store;
+use second::terms;
+use std::process::ExitCode;
+
+const USAGE: &str = "usage: rows FIRST COUNT [CALLS]";
+
+/// What the printed terms mean, and the definitions that a law has to open.
+const HEADER: &str = include_str!("rows_header.txt");
+const UNFOLDING: &str = include_str!("rows_unfolding.txt");
+
+fn main() -> ExitCode {
+    let arguments: Vec<String> = std::env::args().skip(1).collect();
+    let words: Vec<&str> = arguments.iter().map(String::as_str).collect();
+    let numbers = match words[..] {
+        [first, count] => arguments::numbers(first, count).map(|range| (range, u64::MAX)),
+        [first, count, calls] => arguments::numbers(first, count).zip(calls.parse().ok()),
+        _ => None,
+    };
+    let done = match numbers {
+        Some(((first, count), calls)) => module(first, count, calls),
+        None => Err(USAGE.to_string()),
+    };
+    arguments::exit_code(done.map(|text| print!("{text}")))
+}
+
+/// The laws of these seeds, of each list the first `calls` calls, and behind them how often each response came.
+fn module(first: u64, count: u64, calls: u64) -> Result<String, String> {
+    let mut text = HEADER.to_string();
+    let mut counts = Counts::new();
+    for number in 0..count {
+        let seed = first.wrapping_add(number);
+        text += &list_law(seed, calls, &mut counts)?;
+        text += &state_law(seed, &mut counts);
+        text += &set_up_law(seed, &mut counts);
+    }
+    Ok(text + &counts_text(&counts))
+}
+
+fn counts_text(counts: &Counts) -> String {
+    let responses: String = counts
+        .iter()
+        .map(|(label, count)| format!("-- response {label}: {count}\n"))
+        .collect();
+    format!("\n{responses}-- calls: {}\n", counts.values().sum::<u64>())
+}
+
+fn law(name: &str, computed: &str, expected: &str) -> String {
+    format!("\n{name} :\n  {computed}\n  ≡ {expected}\n{UNFOLDING}{name} = refl\n")
+}
+
+fn list_law(seed: u64, calls: u64, counts: &mut Counts) -> Result<String, String> {
+    let mut list = random::list(seed);
+    list.calls.truncate(calls as usize);
+    let (answers, machine) = compare::run(&list)?;
+    for (list_call, (answer, _)) in list.calls.iter().zip(&answers) {
+        let label = compare::label(&machine, &list_call.call, answer);
+        *counts.entry(label).or_default() += 1;
+    }
+    let fill = |length| terms::bytes(&vec![compare::FILL; length]);
+    let computed = format!(
+        "list-outcome {} {} {} {} {} {}",
+        terms::bytes(&list.table),
+        list.capacity,
+        fill(list.store),
+        list.queue,
+        fill(list.images),
+        terms::list(&list.calls, terms::given)
+    );
+    let expected = terms::outcome(&answers, &machine);
+    Ok(law(&format!("list-{seed}"), &computed, &expected))
+}
+
+fn state_law(seed: u64, counts: &mut Counts) -> String {
+    let random = &mut Random::new(seed);
+    let (mut machine, _) = any_state::machine(random);
+    let list_call = any_state::call(random, &machine);
+    let computed = format!(
+        "call-outcome {} ({}) ({})",
+        machine.capacity,
+        terms::given(&list_call),
+        terms::nucleus(&machine)
+    );
+    let mut record = list_call.record;
+    let answer = machine.call(&list_call.call, &list_call.format, &mut record);
+    let label = compare::label(&machine, &list_call.call, &answer);
+    *counts.entry(label).or_default() += 1;
+    let expected = terms::outcome(&[(answer, record)], &machine);
+    law(&format!("state-{seed}"), &computed, &expected)
+}
+
+/// A set-up with a table that may break a rule, and buffers that may be too short.
+fn set_up_law(seed: u64, counts: &mut Counts) -> String {
+    let random = &mut Random::new(seed);
+    let table = match random.once_in(4) {
+        true => random::table(random),
+        false => any_state::table(random),
+    };
+    let definition = definition::read_table(&table).unwrap_or_default();
+    let capacity = random.pick(&[0, 1, 2, 3, 5, 257]);
+    let mut lent =
+        |needed: usize| (needed.min(300) + random.pick(&[0, 1, 1, 1, 2, 3])).saturating_sub(1);
+    let mut store = vec![compare::FILL; lent(store::store_size(&definition))];
+    let mut queue = vec![Entry::default(); lent(capacity as usize)];
+    let mut images =
+        vec![compare::FILL; lent(capacity as usize * definition.greatest_record_length())];
+    let before = terms::lent(&store, &queue, &images);
+    let set_up = nucleus::set_up(&table, capacity, &mut store, &mut queue, &mut images);
+    let response = set_up.err().unwrap_or(0);
+    *counts.entry(response.to_string()).or_default() += 1;
+    law(
+        &format!("set-up-{seed}"),
+        &format!("made-by {capacity} {before} {}", terms::bytes(&table)),
+        &format!("made {response} {}", terms::lent(&store, &queue, &images)),
+    )
+}

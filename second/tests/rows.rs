@@ -1,0 +1,55 @@
+//! The program `rows`: a law for each list, state and set-up, and every response number.
+
+use second::compare::REACHED;
+use std::process::Command;
+
+fn output(arguments: &[&str]) -> (bool, String) {
+    let output = Command::new(env!("CARGO_BIN_EXE_rows"))
+        .args(arguments)
+        .output()
+        .expect("run");
+    let text = String::from_utf8(output.stdout).expect("text");
+    (output.status.success(), text)
+}
+
+fn lines_with(text: &str, part: &str) -> usize {
+    text.lines().filter(|line| line.contains(part)).count()
+}
+
+#[test]
+fn three_laws_a_seed() {
+    let (good, text) = output(&["7", "4"]);
+    assert!(good);
+    assert_eq!(lines_with(&text, " = refl"), 12);
+    for name in ["list-7", "state-8", "set-up-10"] {
+        assert_eq!(lines_with(&text, &format!("{name} = refl")), 1, "{name}");
+    }
+}
+
+#[test]
+fn lists_can_be_cut() {
+    let (good, text) = output(&["7", "1", "5"]);
+    assert!(good);
+    assert_eq!(lines_with(&text, "    given (bytes"), 5);
+    assert!(text.ends_with("-- calls: 7\n"), "{text}");
+}
+
+#[test]
+fn every_response_comes() {
+    let (good, text) = output(&["1", "150"]);
+    assert!(good);
+    for label in REACHED.iter().chain(&["10", "11", "12"]) {
+        assert_eq!(
+            lines_with(&text, &format!("-- response {label}: ")),
+            1,
+            "{label}"
+        );
+    }
+}
+
+#[test]
+fn bad_arguments_fail() {
+    for arguments in [&[][..], &["1"], &["1", "x"], &["1", "1", "x"]] {
+        assert!(!output(arguments).0, "{arguments:?}");
+    }
+}
