@@ -134,7 +134,7 @@ fn spoil(random: &mut Random, machine: &mut Machine) {
     let place = random.below(machine.queue.len() as u64 + 1) as usize;
     let user = random.below(32) as usize;
     let definition = &mut machine.state.definition;
-    match random.below(19) {
+    match random.below(21) {
         0 => machine.capacity = random.pick(&[0, 257, u32::MAX]),
         1 => machine.capacity = random.between(1, 8) as u32,
         2 => machine.queue.truncate(place),
@@ -153,10 +153,24 @@ fn spoil(random: &mut Random, machine: &mut Machine) {
         15 => machine.state.users[user].session = false,
         16 => machine.state.last_assigned[place % MAX_FILES] = random.below(7) as u16,
         17 => machine.state.clock = random.below(1000) as u32,
+        18 | 19 => repeat_entry(random, machine),
         _ => {
             if let Some(entry) = machine.queue.first_mut() {
                 *entry = random_entry(random);
             }
+        }
+    }
+}
+
+/// Lets the last entry have the file and ISN of another.
+fn repeat_entry(random: &mut Random, machine: &mut Machine) {
+    let last = machine.queue.len().min(machine.state.entries as usize);
+    if let [before @ .., entry] = &mut machine.queue[..last] {
+        if !before.is_empty() {
+            *entry = Entry {
+                user: entry.user,
+                ..random.pick(before)
+            };
         }
     }
 }

@@ -149,12 +149,13 @@ fn next_clock(random: &mut Random, clock: u32) -> u32 {
     }
 }
 
-/// The commands that change come more often; a few are unknown.
+/// The commands that change come more often, and ET, so that there are records to change; a few are unknown.
 fn command(random: &mut Random) -> [u8; 2] {
     match random.below(100) {
         0..=1 => random.pick(&[*b"hi", *b"XX", *b"L9", *b"1A", [0, 0], [0xFF, 0xFF]]),
         2..=39 => random.pick(&[*b"N1", *b"N2", *b"N2", *b"A1"]),
         40..=59 => random.pick(&[*b"HI", *b"L4", *b"A1", *b"E1", *b"RI"]),
+        60..=69 => *b"ET",
         _ => random.pick(&COMMANDS).1,
     }
 }

@@ -23,7 +23,7 @@ use Rattle.images.specs.Images as images
 use Rattle.hold.specs.Hold.{keep-image, settled, first-change-queue, first-change-images, put-back-in, put-back, restore}
 use Rattle.nucleus.specs.Text.{text}
 use Rattle.nucleus.specs.Commands.{command-of, has-option, blank, option-H}
-use Rattle.nucleus.specs.Nucleus.{Nucleus, Result}
+use Rattle.nucleus.specs.Nucleus.{Nucleus}
 use Rattle.nucleus.specs.WellMade.{too-short, well-made}
 use Rattle.nucleus.specs.Clock.{removed, backed-out, clocked}
 use Rattle.nucleus.specs.Target.{target}

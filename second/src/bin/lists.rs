@@ -8,12 +8,14 @@ use second::random::{self, List, ListCall};
 use std::io::{self, Write};
 use std::process::ExitCode;
 
+type Print = fn(u64, u64) -> Result<(), String>;
+
 const USAGE: &str = "usage: lists SEED [COUNT] | lists --counts FIRST LAST";
 
 fn main() -> ExitCode {
     let arguments: Vec<String> = std::env::args().skip(1).collect();
     let words: Vec<&str> = arguments.iter().map(String::as_str).collect();
-    let (print, first, second): (fn(u64, u64) -> Result<(), String>, _, _) = match words[..] {
+    let (print, first, second): (Print, _, _) = match words[..] {
         ["--counts", first, last] => (print_counts, first, last),
         [seed] => (print_lists, seed, "1"),
         [seed, count] => (print_lists, seed, count),

@@ -1,5 +1,5 @@
 //! Calls and what this implementation makes of them, as an antt module of laws: the definitions of crates/nucleus
-//! compute the same. For each seed a random list, one call on a state that nobody set up, and a set-up.
+//! compute the same. For each seed a random list, calls on states that nobody set up, and set-ups.
 
 use second::any_state;
 use second::arguments;
@@ -13,6 +13,9 @@ use second::terms;
 use std::process::ExitCode;
 
 const USAGE: &str = "usage: rows FIRST COUNT [CALLS]";
+
+/// Single calls, and set-ups, for each seed.
+const SINGLES: usize = 3;
 
 /// What the printed terms mean, and the definitions that a law has to open.
 const HEADER: &str = include_str!("rows_header.txt");
@@ -40,8 +43,11 @@ fn module(first: u64, count: u64, calls: u64) -> Result<String, String> {
     for number in 0..count {
         let seed = first.wrapping_add(number);
         text += &list_law(seed, calls, &mut counts)?;
-        text += &state_law(seed, &mut counts);
-        text += &set_up_law(seed, &mut counts);
+        let random = &mut Random::new(seed);
+        for place in 1..=SINGLES {
+            text += &state_law(&format!("state-{seed}-{place}"), random, &mut counts);
+            text += &set_up_law(&format!("set-up-{seed}-{place}"), random, &mut counts);
+        }
     }
     Ok(text + &counts_text(&counts))
 }
@@ -80,8 +86,7 @@ fn list_law(seed: u64, calls: u64, counts: &mut Counts) -> Result<String, String
     Ok(law(&format!("list-{seed}"), &computed, &expected))
 }
 
-fn state_law(seed: u64, counts: &mut Counts) -> String {
-    let random = &mut Random::new(seed);
+fn state_law(name: &str, random: &mut Random, counts: &mut Counts) -> String {
     let (mut machine, _) = any_state::machine(random);
     let list_call = any_state::call(random, &machine);
     let computed = format!(
@@ -95,12 +100,11 @@ fn state_law(seed: u64, counts: &mut Counts) -> String {
     let label = compare::label(&machine, &list_call.call, &answer);
     *counts.entry(label).or_default() += 1;
     let expected = terms::outcome(&[(answer, record)], &machine);
-    law(&format!("state-{seed}"), &computed, &expected)
+    law(name, &computed, &expected)
 }
 
 /// A set-up with a table that may break a rule, and buffers that may be too short.
-fn set_up_law(seed: u64, counts: &mut Counts) -> String {
-    let random = &mut Random::new(seed);
+fn set_up_law(name: &str, random: &mut Random, counts: &mut Counts) -> String {
     let table = match random.once_in(4) {
         true => random::table(random),
         false => any_state::table(random),
@@ -118,7 +122,7 @@ fn set_up_law(seed: u64, counts: &mut Counts) -> String {
     let response = set_up.err().unwrap_or(0);
     *counts.entry(response.to_string()).or_default() += 1;
     law(
-        &format!("set-up-{seed}"),
+        name,
         &format!("made-by {capacity} {before} {}", terms::bytes(&table)),
         &format!("made {response} {}", terms::lent(&store, &queue, &images)),
     )
