@@ -36,6 +36,7 @@ use Rattle.nucleus.specs.Target.{held-by-other, file, holder-of, target-isn}
 use Rattle.nucleus.specs.Rows.{held-elsewhere, queue-full, his, new-record, judged as judged-row, is-taken, value-taken}
 use Rattle.nucleus.specs.declared.Command.the-variants.{Hi, L4, A1, E1, N1, N2}
 use Rattle.history.specs.Updates.{FileUpdate, suits, judged, updates}
+use Rattle.history.specs.Lent.{Lent}
 use Rattle.history.specs.Kept.{definition-of, ground-of, seen}
 use Rattle.history.specs.Accepted.{Accepted}
 use Rattle.history.specs.Changes.{Changes, replaces, erases, adds, adds-there, rest-fails, Aim, file-is}
@@ -158,10 +159,10 @@ module _ (r : Request) (n : Nucleus) (s : DefinitionShape (definition-of n)) (v 
       any-sift (λ j. is-unique (field-at (file r n) j .option)) (λ j. judges j && taken-at j) (numbers (field-count (file r n)) 0)
       ∙ any-agree _ _ field-test (numbers (field-count (file r n)) 0) ∙ rest-fails _ _ brings (a .unique)
 
-  module _ (lent : List ℕ) where
+  module _ (lent : Lent) where
     new-free : one-of (A1 ∷ N1 ∷ N2 ∷ []) (r .command) ≡ true → machine.taken (ground-of lent n) u k change (some new) (seen lent n) ≡ false
     new-free brings =
-        taken-is d s v (n .store) (made .store-room) k home (updates d) lent change new (rw (t .found) at (new-width r n s (made .store-room) t)) u (n .queue) (n .images) (n .state .count) nobody-else
+        taken-is d s v (n .store) (made .store-room) k home (updates d) (lent .store) change new (rw (t .found) at (new-width r n s (made .store-room) t)) u (n .queue) (n .images) (n .state .count) nobody-else
         ∙ rw (isn-is, number-is) (rw (t .found) at (values-free brings))
 
     pub slot-free : machine.taken (ground-of lent n) u k change (slot-of r n c) (seen lent n) ≡ false

@@ -23,9 +23,7 @@ use Rattle.transactions.specs.Machine.{Laws, Machine, end, back-out, allowed}
 use Rattle.transactions.specs.Theorems.{Invariant, kept-act}
 use Rattle.ground.specs.Keys.{isn-bound}
 use Rattle.ground.specs.Ground.{laws}
-use Rattle.ground.specs.Queue.{Made}
 use Rattle.ground.specs.Entries.{made-fits}
-use Rattle.ground.specs.Kept.{made-remove, made-restore}
 use Rattle.ground.specs.Acts.{act-end, act-back-out}
 use Rattle.nucleus.specs.Users.{ended, with-transaction}
 use Rattle.nucleus.specs.Nucleus.{Nucleus, max-users, user-of, with-user, with-state, change-user, entries-of}
@@ -34,7 +32,9 @@ use Rattle.nucleus.specs.declared.User.{User}
 use Rattle.history.specs.Journal.{Journal, Change, member, strikes, commits, struck}
 use Rattle.history.specs.Journal as journal
 use Rattle.history.specs.Updates.{updates, logged}
+use Rattle.history.specs.Lent.{Lent}
 use Rattle.history.specs.Kept.{Kept, Sized, People, Told, definition-of, ground-of, seen, user-sound, is-active, entry-active, change-sound, member-of, one-of-users}
+use Rattle.history.specs.Sizes.{sized-removed, sized-restored}
 use Rattle.history.specs.UpdateLaws.{update-laws}
 use Rattle.history.specs.People.{all-set, sound-idle, active-other, members-set, member-is}
 use Rattle.history.specs.Logs.{log-end, log-back-out}
@@ -50,8 +50,8 @@ module _ {A : Type 0} (p r q : A → Bool) (f : (x : A) → p x ≡ true → r x
       go (fails t) i = rw t i
 
 -- ---- laws of the machine's ground, of a sized nucleus
-pub laws-of : (capacity : ℕ) (lent : List ℕ) (n : Nucleus) → Sized capacity (definition-of n) (n .store) (n .queue) (n .images) (n .state .count) → Laws (ground-of lent n)
-laws-of capacity lent n s = laws (definition-of n) (s .shape) (s .valid) (updates (definition-of n)) (update-laws (definition-of n) (s .shape) (s .valid)) lent
+pub laws-of : (capacity : ℕ) (lent : Lent) (n : Nucleus) → Sized capacity lent (definition-of n) (n .store) (n .queue) (n .images) (n .state .count) → Laws (ground-of lent n)
+laws-of capacity lent n s = laws (definition-of n) (s .shape) (s .valid) (updates (definition-of n)) (update-laws (definition-of n) (s .shape) (s .valid)) (lent .store)
 
 -- ---- the users, where one of them ends his transaction
 module _ (clock : ℕ) (us : List User) (u : ℕ) (least : 1 ≤ u) (most : u ≤ max-users) (x : User) (full : length us ≡ max-users) (idle : x .active ≡ false) where
@@ -122,7 +122,7 @@ module _ (clock : ℕ) (us : List User) (u : ℕ) (least : 1 ≤ u) (most : u �
             )
 
 -- ---- of the nucleus
-module _ (capacity : ℕ) (lent : List ℕ) (n : Nucleus) (j : Journal) (k : Kept capacity lent n j) (u : ℕ) (least : 1 ≤ u) (most : u ≤ max-users) where
+module _ (capacity : ℕ) (lent : Lent) (n : Nucleus) (j : Journal) (k : Kept capacity lent n j) (u : ℕ) (least : 1 ≤ u) (most : u ≤ max-users) where
   abbrev d : Definition
   d = definition-of n
 
@@ -130,16 +130,6 @@ module _ (capacity : ℕ) (lent : List ℕ) (n : Nucleus) (j : Journal) (k : Kep
   unfolding removed
   entries-left =
       entries-remove (n .queue) (n .images) (n .state .count) (width-of n) (All u) (made-fits d capacity (n .store) (n .queue) (n .images) (n .state .count) (k .sized .made))
-
-  -- the table and what was lent, with what is left of the queue
-  sized-left : (store : List ℕ) → Made d capacity store (n .queue) (n .images) (n .state .count) → Sized capacity d store (removed (All u) n .queue) (removed (All u) n .images) (removed (All u) n .state .count)
-  unfolding removed
-  sized-left store m = record {
-    shape = k .sized .shape;
-    valid = k .sized .valid;
-    capacity-sound = k .sized .capacity-sound;
-    made = made-remove d capacity store (n .queue) (n .images) (n .state .count) m (All u);
-  }
 
   end-allowed : (m : Machine (ground-of lent n)) → allowed (ground-of lent n) (end u) m ≡ true
   unfolding allowed
@@ -154,13 +144,13 @@ module _ (capacity : ℕ) (lent : List ℕ) (n : Nucleus) (j : Journal) (k : Kep
     pub kept-ended : Kept capacity lent (with-state (with-user u x (removed (All u) n .state)) (removed (All u) n)) (journal.ended u j)
     unfolding removed journal.ended
     kept-ended = record {
-      sized = sized-left (n .store) (k .sized .made);
+      sized = sized-removed capacity lent d (n .store) (n .queue) (n .images) (n .state .count) (k .sized) (All u);
       people = rw entries-left (people-ended (n .state .clock) (n .state .users) u least most x (k .people .user-count) idle (entries-of n) (k .people));
       marks-sound = k .marks-sound;
       data-sound = k .data-sound;
       told = told-ended (n .state .clock) (n .state .users) u least most x (k .people .user-count) idle j (k .told) same;
       invariant =
-          rw (act-end d (k .sized .shape) (updates d) lent capacity (n .store) (n .queue) (n .images) (n .state .count) (k .sized .made) u, log-end d lent u (j .changes)) at
+          rw (act-end d (k .sized .shape) (updates d) (lent .store) capacity (n .store) (n .queue) (n .images) (n .state .count) (k .sized .made) u, log-end d (lent .store) u (j .changes)) at
           (kept-act (ground-of lent n) (laws-of capacity lent n (k .sized)) (seen lent n) (logged (j .changes)) (k .invariant) (end u) (end-allowed (seen lent n)));
     }
 
@@ -168,13 +158,13 @@ module _ (capacity : ℕ) (lent : List ℕ) (n : Nucleus) (j : Journal) (k : Kep
     pub kept-out : Kept capacity lent (with-state (with-user u x (removed (All u) (restored u n) .state)) (removed (All u) (restored u n))) (struck u j)
     unfolding removed struck
     kept-out = record {
-      sized = sized-left _ (made-restore d capacity (n .store) (n .queue) (n .images) (n .state .count) (k .sized .made) (k .sized .shape) u);
+      sized = sized-removed capacity lent d _ (n .queue) (n .images) (n .state .count) (sized-restored capacity lent d (n .store) (n .queue) (n .images) (n .state .count) (k .sized) u) (All u);
       people = rw entries-left (people-ended (n .state .clock) (n .state .users) u least most x (k .people .user-count) idle (entries-of n) (k .people));
       marks-sound = k .marks-sound;
       data-sound = k .data-sound;
       told = told-struck (n .state .clock) (n .state .users) u least most x (k .people .user-count) idle j (k .told) same;
       invariant =
-          rw (act-back-out d (k .sized .shape) (updates d) lent capacity (n .store) (n .queue) (n .images) (n .state .count) (k .sized .made) u, log-back-out d lent u (j .changes)) at
+          rw (act-back-out d (k .sized .shape) (updates d) (lent .store) capacity (n .store) (n .queue) (n .images) (n .state .count) (k .sized .made) u, log-back-out d (lent .store) u (j .changes)) at
           (kept-act (ground-of lent n) (laws-of capacity lent n (k .sized)) (seen lent n) (logged (j .changes)) (k .invariant) (back-out u) (back-out-allowed (seen lent n)));
     }
 

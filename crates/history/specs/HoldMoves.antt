@@ -36,6 +36,7 @@ use Rattle.nucleus.specs.Nucleus.{Nucleus, Request, entries-of, change-user}
 use Rattle.nucleus.specs.WellMade.{within-file}
 use Rattle.nucleus.specs.Target.{held-by, held-by-other, holder-of}
 use Rattle.nucleus.specs.Effects.{entry-for, with-entry, held}
+use Rattle.history.specs.Lent.{Lent}
 use Rattle.history.specs.Kept.{definition-of, ground-of, seen}
 use Rattle.history.specs.QueueMoves.{queue-seen, MadeIn}
 
@@ -142,7 +143,7 @@ module _ (n : Nucleus) (capacity : ℕ) (made : MadeIn capacity n) where
   other-seen u file isn small =
       other-holds (definition-of n) (n .queue) (n .images) (n .state .count) (made .single) file isn small u ∙ passes-other u (holder (entries-of n) file isn)
 
-  pub hold-allowed : (lent : List ℕ) (u file isn : ℕ) → isn < isn-bound → held-by-other u (holder (entries-of n) file isn) ≡ false
+  pub hold-allowed : (lent : Lent) (u file isn : ℕ) → isn < isn-bound → held-by-other u (holder (entries-of n) file isn) ≡ false
       → machine.allowed (ground-of lent n) (machine.hold u (key file isn)) (seen lent n) ≡ true
   unfolding machine.allowed
   hold-allowed lent u file isn small mine = rw (other-seen u file isn small ∙ mine)
@@ -160,7 +161,7 @@ module _ (n : Nucleus) (capacity : ℕ) (made : MadeIn capacity n) where
     abbrev new : Entry
     new = entry-for r isn n
 
-    new-shape : Shape new
+    pub new-shape : Shape new
     new-shape = record { user = small-user; file = known-file-small (definition-of n) shape (r .call .file) isn small inside; isn = small }
 
     new-matches : is-of (r .call .file) isn new ≡ true
@@ -180,21 +181,6 @@ module _ (n : Nucleus) (capacity : ℕ) (made : MadeIn capacity n) where
       seen-anew : queue-seen (held-anew r isn n) ≡ machine.with-hold u k (queue-seen n)
       seen-anew = queue-hold (definition-of n) (n .queue) (n .images) (n .state .count) new new-shape refl place-left free
 
-      single-anew : repeated (entries-of n ++ new ∷ []) ≡ false
-      unfolding repeated
-      single-anew =
-          rw (distinct-last alike (entries-of n) new, not-false (distinct alike (entries-of n)) (made .single), free-none (r .call .file) isn (entries-of n) free)
-
-      made-anew : MadeIn capacity (held-anew r isn n)
-      made-anew = record {
-        store-room = made .store-room;
-        queue-room = omega (arith, made .queue-room, length-append-entry (n .queue) (n .state .count) new);
-        image-room = made .image-room;
-        most = omega (arith, room none);
-        each-known = rw (entries-anew, all-append (entry-known (definition-of n)) (entries-of n) (new ∷ []), made .each-known, inside);
-        single = rw entries-anew single-anew;
-      }
-
       -- the entry is the last one
       pub found-anew : holder-of r (held r isn n) isn ≡ Held (n .state .count) new
       found-anew =
@@ -209,13 +195,6 @@ module _ (n : Nucleus) (capacity : ℕ) (made : MadeIn capacity n) where
             let e = his-entry u (holder-of r n isn) h in
             rw (held-his r isn n h) (sym (queue-held (definition-of n) (n .queue) (n .images) (n .state .count) u (r .call .file) isn (e .at) (e .entry) small (e .found)))
         go (fails h) = rw (held-new r isn n h) (seen-anew h)
-
-    pub made-held : MadeIn capacity (held r isn n)
-    made-held = go (outcome (held-by u (holder-of r n isn)))
-      where
-        go : Outcome (held-by u (holder-of r n isn)) → MadeIn capacity (held r isn n)
-        go (holds h) = rw (held-his r isn n h) made
-        go (fails h) = rw (held-new r isn n h) (made-anew h)
 
     pub entries-held : entries-of (held r isn n) ≡ cond (held-by u (holder-of r n isn)) (entries-of n) (entries-of n ++ new ∷ [])
     entries-held = go (outcome (held-by u (holder-of r n isn)))

@@ -25,13 +25,15 @@ use Rattle.nucleus.specs.Effects.{held, entry-for}
 use Rattle.nucleus.specs.declared.User.{User}
 use Rattle.history.specs.Journal.{Journal, member, with-member, start-at, begun}
 use Rattle.history.specs.Updates.{logged}
+use Rattle.history.specs.Lent.{Lent}
 use Rattle.history.specs.Kept.{Kept, People, definition-of, ground-of, seen, user-sound, is-active, entry-active, member-of, start-of, one-of-users}
 use Rattle.history.specs.People.{ActiveSound, active-sound, sound-active, active-own, member-is}
 use Rattle.history.specs.Keeping.{people-user, told-user, same-member}
+use Rattle.history.specs.Sizes.{sized-append}
 use Rattle.history.specs.Ends.{laws-of}
 use Rattle.history.specs.Passing.{user-known}
 use Rattle.history.specs.QueueMoves.{queue-seen, MadeIn}
-use Rattle.history.specs.HoldMoves.{His, his-entry, held-anew, held-his, held-new, made-held, seen-held, all-held, hold-allowed}
+use Rattle.history.specs.HoldMoves.{His, his-entry, nobodys, held-anew, held-his, held-new, new-shape, seen-held, all-held, hold-allowed}
 
 -- a caller that may hold: in his session, not marked, not access-only
 pub record Serving (u : ℕ) (n : Nucleus) : Type 0 where
@@ -48,7 +50,7 @@ pub record Holdable (capacity : ℕ) (r : Request) (isn : ℕ) (n : Nucleus) : T
   pub mine : held-by-other (r .call .user) (holder-of r n isn) ≡ false
   pub room : held-by (r .call .user) (holder-of r n isn) ≡ false → n .state .count < capacity
 
-module _ (capacity : ℕ) (lent : List ℕ) (n : Nucleus) (j : Journal) (k : Kept capacity lent n j) (r : Request) (isn : ℕ)
+module _ (capacity : ℕ) (lent : Lent) (n : Nucleus) (j : Journal) (k : Kept capacity lent n j) (r : Request) (isn : ℕ)
     (s : Serving (r .call .user) n) (h : Holdable capacity r isn n) where
   abbrev u : ℕ
   u = r .call .user
@@ -121,12 +123,10 @@ module _ (capacity : ℕ) (lent : List ℕ) (n : Nucleus) (j : Journal) (k : Kep
   module _ (none-his : held-by u (holder-of r n isn) ≡ false) where
     anew : Kept capacity lent (held-anew r isn n) (with-member u (member-of x) j)
     anew = record {
-      sized = record {
-        shape = k .sized .shape;
-        valid = k .sized .valid;
-        capacity-sound = k .sized .capacity-sound;
-        made = rw (held-new r isn n none-his) at (made-held n capacity (k .sized .made) (k .sized .shape) r isn (h .small) (h .inside) small-user (h .mine) (h .room));
-      };
+      sized =
+          sized-append capacity lent (definition-of n) (n .store) (n .queue) (n .images) (n .state .count) (k .sized) (entry-for r isn n)
+          (new-shape n capacity (k .sized .made) (k .sized .shape) r isn (h .small) (h .inside) small-user (h .mine) (h .room))
+          (h .inside) (nobodys u (holder-of r n isn) none-his (h .mine)) (h .room none-his);
       people = record {
         user-count = old-people .user-count;
         users-sound = old-people .users-sound;

@@ -20,6 +20,7 @@ use Rattle.nucleus.specs.WellMade.{marks-made, data-made}
 use Rattle.nucleus.specs.declared.User.{User}
 use Rattle.nucleus.specs.declared.EtData.{EtData}
 use Rattle.history.specs.Journal.{Journal, Member, Change, new-member, member, with-member}
+use Rattle.history.specs.Lent.{Lent}
 use Rattle.history.specs.Kept.{Kept, People, Told, definition-of, user-sound, is-active, entry-active, change-sound, member-of, one-of-users}
 use Rattle.history.specs.People.{all-implies, all-set, sound-later, active-kept, members-set, member-is}
 
@@ -70,7 +71,7 @@ marks-set (a ∷ marks) (f ∷ fs) zero isn h m = rw (le-leb isn (f .«max_isn»
 marks-set (a ∷ marks) (f ∷ fs) (suc i) isn h m =
     rw (and-left (leb a (f .«max_isn»)) (marks-made marks fs) h) (marks-set marks fs i isn (and-right (leb a (f .«max_isn»)) (marks-made marks fs) h) m)
 
-module _ (capacity : ℕ) (lent : List ℕ) (n : Nucleus) (j : Journal) (k : Kept capacity lent n j) where
+module _ (capacity : ℕ) (lent : Lent) (n : Nucleus) (j : Journal) (k : Kept capacity lent n j) where
   module _ (u : ℕ) (least : 1 ≤ u) (most : u ≤ max-users) (x : User) (sound : user-sound (n .state .clock) x ≡ true) (same : x .active ≡ user-of n u .active) where
     -- a user becomes another value; he stays in his transaction, or out of one
     pub kept-user : Kept capacity lent (with-state (with-user u x (n .state)) n) (with-member u (member-of x) j)

@@ -2,7 +2,9 @@ pub mod Journal
 pub mod Run
 pub mod Claim
 pub mod Updates
+pub mod Lent
 pub mod Kept
+pub mod Sizes
 pub mod Accepted
 pub mod People
 pub mod Keeping

@@ -17,12 +17,13 @@ use Rattle.nucleus.specs.Clock.{backed-out, removed}
 use Rattle.nucleus.specs.declared.User.{User}
 use Rattle.history.specs.Journal as journal
 use Rattle.history.specs.Journal.{Journal, member, struck, is-late}
+use Rattle.history.specs.Lent.{Lent}
 use Rattle.history.specs.Kept.{Kept, Rested, user-sound, member-of, start-of, one-of-users}
 use Rattle.history.specs.People.{all-getD, all-index, active-sound, sound-idle, user-own, user-other, member-is}
 use Rattle.history.specs.Keeping.{kept-like, kept-clock}
 use Rattle.history.specs.Ends.{kept-backed-out}
 
-module _ (capacity : ℕ) (lent : List ℕ) where
+module _ (capacity : ℕ) (lent : Lent) where
   module _ (n : Nucleus) (j : Journal) (k : Kept capacity lent n j) where
     pub user-known : (u : ℕ) → user-sound (n .state .clock) (user-of n u) ≡ true
     user-known u = all-getD (user-sound (n .state .clock)) (n .state .users) (u - 1) fresh-user (k .people .users-sound) refl

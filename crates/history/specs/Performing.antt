@@ -27,6 +27,7 @@ use Rattle.nucleus.specs.declared.User.{User}
 use Rattle.nucleus.specs.declared.EtData.{EtData}
 use Rattle.history.specs.Journal.{Journal, member, with-member, begun, struck, limited}
 use Rattle.history.specs.Journal as journal
+use Rattle.history.specs.Lent.{Lent}
 use Rattle.history.specs.Kept.{Kept, Rested, user-sound, member-of, start-of}
 use Rattle.history.specs.People.{all-set, all-getD, sound-idle, member-is}
 use Rattle.history.specs.Keeping.{kept-user, kept-data}
@@ -65,7 +66,7 @@ module _ (n : Nucleus) (rested : Rested n) where
       go true = rested
       go false = rested-set (r .call .user) (started clock (user-of n (r .call .user))) (started-quiet (r .call .user))
 
-module _ (capacity : ℕ) (lent : List ℕ) (n : Nucleus) (j : Journal) (p : Passed capacity lent n j) (r : Request) where
+module _ (capacity : ℕ) (lent : Lent) (n : Nucleus) (j : Journal) (p : Passed capacity lent n j) (r : Request) where
   abbrev u : ℕ
   u = r .call .user
 

@@ -39,6 +39,7 @@ use Rattle.history.specs.Journal.{Journal, Change, apply, is-at, replaye
 use Rattle.history.specs.Run.{record-in}
 use Rattle.history.specs.Claim.{SameRecords, UniqueValues, file-numbered}
 use Rattle.history.specs.Updates.{as-change, logged}
+use Rattle.history.specs.Lent.{Lent}
 use Rattle.history.specs.Kept.{Kept, definition-of, ground-of, seen, is-active, change-sound}
 use Rattle.history.specs.Ends.{laws-of}
 
@@ -78,7 +79,7 @@ unique-place f i used unique =
 change-small : (us : List User) (c : Change) → change-sound us c ≡ true → c .isn < isn-bound
 change-small us c h = ltb-true (c .isn) isn-bound (and-left (ltb (c .isn) isn-bound) (not (c .uncommitted) || is-active us (c .user)) h)
 
-module _ (capacity : ℕ) (lent : List ℕ) (n : Nucleus) (j : Journal) (k : Kept capacity lent n j) where
+module _ (capacity : ℕ) (lent : Lent) (n : Nucleus) (j : Journal) (k : Kept capacity lent n j) where
   abbrev d : Definition
   d = definition-of n
 

@@ -24,13 +24,14 @@ use Rattle.nucleus.specs.declared.User.{User}
 use Rattle.history.specs.Journal as journal
 use Rattle.history.specs.Journal.{Journal, in-transaction, is-late, member, struck, fed, started}
 use Rattle.history.specs.Run.{Given, bt}
+use Rattle.history.specs.Lent.{Lent}
 use Rattle.history.specs.Kept.{Kept, Rested, start-of, user-sound}
 use Rattle.history.specs.People.{ActiveSound, active-sound, member-is}
 use Rattle.history.specs.Passing.{Passed, user-known, late-as-due}
 use Rattle.history.specs.Standing.{well-made-kept, long-kept}
 use Rattle.history.specs.Performing.{quiet-user}
 
-module _ (capacity : ℕ) (lent : List ℕ) (n : Nucleus) (j : Journal) (p : Passed capacity lent n j) where
+module _ (capacity : ℕ) (lent : Lent) (n : Nucleus) (j : Journal) (p : Passed capacity lent n j) where
   -- ---- clock 0
   nucleus-from : (more u : ℕ) → nucleus.timed-out-from more u n ≡ n
   nucleus-from zero u = refl

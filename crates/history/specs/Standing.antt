@@ -23,6 +23,7 @@ use Rattle.nucleus.specs.Nucleus.{Nucleus, max-users, max-capacity, entries-of}
 use Rattle.nucleus.specs.WellMade.{too-short, within-file, entry-made, user-made, well-made}
 use Rattle.nucleus.specs.declared.User.{User}
 use Rattle.history.specs.Journal.{Journal}
+use Rattle.history.specs.Lent.{Lent}
 use Rattle.history.specs.Kept.{Kept, definition-of, user-sound, entry-active}
 use Rattle.history.specs.People.{active-sound, all-implies, all-index}
 
@@ -42,7 +43,7 @@ made-of-sound clock u h = go (outcome (u .active))
     go (holds a) = let s = active-sound clock u h a in rw (a, s .session, le-leb (u .begun) clock (s .begun))
     go (fails a) = rw a
 
-module _ (capacity : ℕ) (lent : List ℕ) (n : Nucleus) (j : Journal) (k : Kept capacity lent n j) where
+module _ (capacity : ℕ) (lent : Lent) (n : Nucleus) (j : Journal) (k : Kept capacity lent n j) where
   entries-made : all (entry-made (n .state)) (entries-of n) ≡ true
   entries-made = all-index (entry-made (n .state)) no-entry (entries-of n) here
     where

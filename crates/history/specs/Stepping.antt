@@ -31,6 +31,7 @@ use Rattle.nucleus.specs.declared.User.{User}
 use Rattle.history.specs.Journal as journal
 use Rattle.history.specs.Journal.{Journal, Change, new-member, member, strikes, struck, is-early, answered, fed}
 use Rattle.history.specs.Run.{Given, World, result, called}
+use Rattle.history.specs.Lent.{Lent}
 use Rattle.history.specs.Kept.{Kept, Rested, definition-of, user-sound, is-active, change-sound, member-of, one-of-users}
 use Rattle.history.specs.Accepted.{accepted, is-cause}
 use Rattle.history.specs.People.{all-implies, active-sound, sound-idle, user-own, member-is}
@@ -42,7 +43,7 @@ use Rattle.history.specs.Performing.{quiet-user, rested-set, idle-quiet,
 use Rattle.history.specs.Serving.{plain, first-plain, Ready, Served, served-effect}
 
 -- ---- the rows of 29 and after, and the effect
-module _ (lent : List ℕ) (n : Nucleus) (j : Journal) (r : Request) (p : Passed (r .capacity) lent n j) (y : Ready r n) where
+module _ (lent : Lent) (n : Nucleus) (j : Journal) (r : Request) (p : Passed (r .capacity) lent n j) (y : Ready r n) where
   -- a refusal that is neither 0 nor 9 tells the journal nothing but the clock
   refused-plain : (c : Response) → plain c ≡ true → Served lent r j (r .command) (refusal (r .buffer) n c)
   refused-plain c h =
@@ -64,7 +65,7 @@ sift-all : {A : Type 0} (p : A → Bool) (xs : List A) → all p xs ≡ true →
 sift-all p [] h = refl
 sift-all p (x ∷ xs) h = rw (and-left (p x) (all p xs) h) (ap (λ l. x ∷ l) (sift-all p xs (and-right (p x) (all p xs) h)))
 
-module _ (capacity : ℕ) (lent : List ℕ) (n : Nucleus) (j : Journal) (k : Kept capacity lent n j) (u : ℕ) (idle : user-of n u .active ≡ false) where
+module _ (capacity : ℕ) (lent : Lent) (n : Nucleus) (j : Journal) (k : Kept capacity lent n j) (u : ℕ) (idle : user-of n u .active ≡ false) where
   not-struck : (c : Change) → change-sound (n .state .users) c ≡ true → not (strikes u c) ≡ true
   not-struck c h = go (outcome (c .uncommitted)) (outcome (eqb (c .user) u))
     where
@@ -92,7 +93,7 @@ module _ (capacity : ℕ) (lent : List ℕ) (n : Nucleus) (j : Journal) (k : Kep
       changes = sift-all (λ c. not (strikes u c)) (j .changes) (all-implies (change-sound (n .state .users)) (λ c. not (strikes u c)) not-struck (j .changes) (k .told .changes-sound))
 
 -- ---- the rows of 9, and the session that opens
-module _ (lent : List ℕ) (n : Nucleus) (j : Journal) (r : Request) (p : Passed (r .capacity) lent n j)
+module _ (lent : Lent) (n : Nucleus) (j : Journal) (r : Request) (p : Passed (r .capacity) lent n j)
     (least : 1 ≤ r .call .user) (most : r .call .user ≤ max-users) (option : has-option (r .command) (r .call .option) ≡ true) where
   abbrev u : ℕ
   u = r .call .user
@@ -207,7 +208,7 @@ module _ (lent : List ℕ) (n : Nucleus) (j : Journal) (r : Request) (p : Passed
 abbrev pub not-of-list : ℕ → Bool
 not-of-list response = any (eqb response) (10 ∷ 11 ∷ 12 ∷ [])
 
-pub record Stepped (capacity : ℕ) (lent : List ℕ) (call : Call) (format buffer : List ℕ) (j : Journal) (x : Result) : Type 0 where
+pub record Stepped (capacity : ℕ) (lent : Lent) (call : Call) (format buffer : List ℕ) (j : Journal) (x : Result) : Type 0 where
   pub passed : Passed capacity lent (x .nucleus) (fed call format buffer (number (x .answer .response)) (x .answer .isn) j)
   -- no call of a list answers 10, 11 or 12
   pub of-list : not-of-list (number (x .answer .response)) ≡ false
@@ -221,7 +222,7 @@ first-three false false false more h = refl
 early-of-list : (response : ℕ) → is-early response ≡ false → not-of-list response ≡ false
 early-of-list response h = first-three (eqb response 10) (eqb response 11) (eqb response 12) _ h
 
-module _ (capacity : ℕ) (lent : List ℕ) (n : Nucleus) (j : Journal) (p : Passed capacity lent n j) (call : Call) (format buffer : List ℕ) where
+module _ (capacity : ℕ) (lent : Lent) (n : Nucleus) (j : Journal) (p : Passed capacity lent n j) (call : Call) (format buffer : List ℕ) where
   -- 22 and 72: all is as it was
   refused-first : (c : Response) → is-early (number c) ≡ true → not-of-list (number c) ≡ false → Stepped capacity lent call format buffer j (refusal buffer n c)
   unfolding fed

@@ -21,13 +21,14 @@ use Rattle.history.specs.Journal as journal
 use Rattle.history.specs.Journal.{Journal, member, new-member, started, in-transaction, struck, fed, new-journal}
 use Rattle.history.specs.Run.{Given, World, result, called, run, begin, bt, back-outs, struck-all}
 use Rattle.history.specs.Claim.{Chosen, NeverWas, Requirement3}
+use Rattle.history.specs.Lent.{Lent}
 use Rattle.history.specs.Passing.{Passed}
 use Rattle.history.specs.SetUpKept.{kept-set-up, rested-set-up}
 use Rattle.history.specs.Stepping.{Stepped, stepped}
 use Rattle.history.specs.Resting.{journal-rests, bt-good, inside}
 use Rattle.history.specs.Records.{same-records, unique-values}
 
-module _ (capacity : ℕ) (lent : List ℕ) where
+module _ (capacity : ℕ) (lent : Lent) where
   -- ---- a list of calls
   pub passed-run : (gs : List Given) (w : World) → Passed capacity lent (w .nucleus) (w .journal)
       → Passed capacity lent (run capacity gs w .nucleus) (run capacity gs w .journal)
@@ -82,12 +83,13 @@ module _ (capacity : ℕ) (lent : List ℕ) where
 pub backed-out-never-was : Requirement3
 backed-out-never-was capacity table store queue images calls us good chosen =
     let w = begin capacity store queue images table in
-    let start : Passed capacity store (w .nucleus) new-journal = record {
+    let lent : Lent = record { store = store; queue = queue; images = images } in
+    let start : Passed capacity lent (w .nucleus) new-journal = record {
       kept = kept-set-up capacity store queue images table good;
       rested = rested-set-up capacity store queue images table good;
     } in
-    let end = passed-back-outs capacity store us (run capacity calls w .nucleus) (run capacity calls w .journal) (passed-run capacity store calls w start) chosen in
+    let end = passed-back-outs capacity lent us (run capacity calls w .nucleus) (run capacity calls w .journal) (passed-run capacity lent calls w start) chosen in
     record {
-      same-records = same-records capacity store (back-outs capacity us (run capacity calls w .nucleus)) (struck-all us (run capacity calls w .journal)) (end .kept);
-      unique-values = unique-values capacity store (back-outs capacity us (run capacity calls w .nucleus)) (struck-all us (run capacity calls w .journal)) (end .kept);
+      same-records = same-records capacity lent (back-outs capacity us (run capacity calls w .nucleus)) (struck-all us (run capacity calls w .journal)) (end .kept);
+      unique-values = unique-values capacity lent (back-outs capacity us (run capacity calls w .nucleus)) (struck-all us (run capacity calls w .journal)) (end .kept);
     }
