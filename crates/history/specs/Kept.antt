@@ -1,5 +1,6 @@
 -- What holds of nucleus and journal after any list of calls: the state is well made, nothing past the sizes of what was lent is touched, the
--- journal has its clock and its transactions, and the argument of requirement 3 (`Invariant` of `transactions`) holds of what is seen of store, queue and images.
+-- journal has its clock and its transactions, and the argument of requirement 3 (`Invariant` of `transactions`) holds of what is seen of store,
+-- queue and images.
 use Prim.Native.Nat.{ℕ, _-_}
 use mathlib.Core.Path.{_≡_}
 use mathlib.Core.Bool.{Bool, true, false, not, _&&_, _||_}
@@ -67,8 +68,9 @@ abbrev pub change-sound : List User → Change → Bool
 change-sound us c = ltb (c .isn) isn-bound && (not (c .uncommitted) || is-active us (c .user))
 
 -- ---- all of it, by what it speaks of
--- the table, and the store, the queue and the images that were lent for it
+-- the table that set-up read, and the store, the queue and the images that were lent for it
 pub record Sized (capacity : ℕ) (lent : Lent) (d : Definition) (store queue images : List ℕ) (count : ℕ) : Type 0 where
+  pub same-table : d ≡ lent .definition
   pub shape : DefinitionShape d
   pub valid : validity.valid d ≡ true
   pub capacity-sound : within 1 max-capacity capacity ≡ true

@@ -5,12 +5,17 @@ use mathlib.Core.List.{List}
 use lib.ListN.{length, drop}
 use Rattle.definition.specs.declared.Definition.{Definition}
 use Rattle.layout.specs.Layout.{store-size, image-length}
+use Rattle.reading.specs.Grammar.{read-table}
 
--- store, queue and image buffer as they were lent at set-up
+-- the table that set-up read; store, queue and image buffer as they were lent to it
 pub record Lent : Type 0 where
+  pub definition : Definition
   pub store : List ℕ
   pub queue : List ℕ
   pub images : List ℕ
+
+abbrev pub lent-at : List ℕ → List ℕ → List ℕ → List ℕ → Lent
+lent-at table store queue images = record { definition = read-table table .definition; store = store; queue = queue; images = images }
 
 -- as long as it was, and past the first `size` as it was
 pub record Alike (size : ℕ) (new old : List ℕ) : Type 0 where

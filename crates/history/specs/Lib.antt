@@ -1,8 +1,10 @@
 pub mod Journal
 pub mod Run
 pub mod Claim
-pub mod Updates
+pub mod Feeding
 pub mod Lent
+pub mod Statements
+pub mod Updates
 pub mod Kept
 pub mod Sizes
 pub mod Accepted
@@ -31,4 +33,3 @@ pub mod Stepping
 pub mod Resting
 pub mod Records
 pub mod Theorem
-pub mod Feeding

@@ -69,8 +69,8 @@ no-marks zero (f ∷ fs) = refl
 no-marks (suc n) (f ∷ fs) = rw (le-leb 0 (f .«max_isn») (omega arith)) (no-marks n fs)
 
 module _ (capacity : ℕ) (store queue images : List ℕ) where
-  abbrev lent : Lent
-  lent = record { store = store; queue = queue; images = images }
+  abbrev lent : Definition → Lent
+  lent d = record { definition = d; store = store; queue = queue; images = images }
 
   fresh-alike : (d : Definition) → DefinitionShape d → store-size d ≤ length store → Alike (store-size d) (fresh-store d store) store
   fresh-alike d s room = record { same-length = fresh-store-length d s store room; same-past = fresh-store-past d s store room }
@@ -81,14 +81,15 @@ module _ (capacity : ℕ) (store queue images : List ℕ) where
 
   -- ---- a fresh nucleus has what is kept
   module _ (d : Definition) (s : DefinitionShape d) (v : valid d ≡ true) (long : Long d capacity store queue images) where
-    none-seen : Invariant (ground-of lent (started d)) (seen lent (started d)) (logged (new-journal .changes))
+    none-seen : Invariant (ground-of (lent d) (started d)) (seen (lent d) (started d)) (logged (new-journal .changes))
     unfolding begin queue-of entries
     none-seen = kept-begin (ground d (updates d) store) (laws d s v (updates d) (update-laws d s v) store)
 
-    kept-started : Kept capacity lent (started d) new-journal
+    kept-started : Kept capacity (lent d) (started d) new-journal
     unfolding entries repeated
     kept-started = record {
       sized = record {
+        same-table = refl;
         shape = s;
         valid = v;
         capacity-sound = long .capacity-sound;
@@ -173,8 +174,8 @@ module _ (capacity : ℕ) (store queue images : List ℕ) where
           go (done v long) e = h v long
           go (undone cause other) e = absurd (other e)
 
-      pub kept-set-up : Kept capacity lent n new-journal
-      kept-set-up = by-started (λ m. Kept capacity lent m new-journal) (kept-started d (read-shape table))
+      pub kept-set-up : Kept capacity (lent d) n new-journal
+      kept-set-up = by-started (λ m. Kept capacity (lent d) m new-journal) (kept-started d (read-shape table))
 
       pub rested-set-up : Rested n
       rested-set-up = by-started Rested (λ v long. refl)

@@ -27,7 +27,7 @@ use Rattle.transactions.specs.Slots.{Slot}
 use Rattle.ground.specs.Keys.{known}
 use Rattle.ground.specs.Store.{put}
 use Rattle.ground.specs.StoreLaws.{put-length-same, put-past}
-use Rattle.ground.specs.Queue.{key-of}
+use Rattle.ground.specs.Queue.{key-of, Made}
 use Rattle.ground.specs.Entries.{made-fits}
 use Rattle.ground.specs.Kept.{made-append, made-first-change, made-remove, made-put, made-restore}
 use Rattle.ground.specs.Restore.{restore-length, restore-past}
@@ -60,6 +60,18 @@ module _ (capacity : ℕ) (lent : Lent) (d : Definition) (store queue images : L
   abbrev width : ℕ
   width = image-length d
 
+  -- the same table
+  sized-as : (store′ queue′ images′ : List ℕ) (count′ : ℕ) → Made d capacity store′ queue′ images′ count′ → Past capacity d lent store′ queue′ images′
+      → Sized capacity lent d store′ queue′ images′ count′
+  sized-as store′ queue′ images′ count′ m p = record {
+    same-table = s .same-table;
+    shape = s .shape;
+    valid = s .valid;
+    capacity-sound = s .capacity-sound;
+    made = m;
+    past = p;
+  }
+
   -- another store, or another queue with its images, alike past the sizes
   past-store : (store′ : List ℕ) → Alike (store-size d) store′ store → Past capacity d lent store′ queue images
   past-store store′ h = record {
@@ -79,13 +91,9 @@ module _ (capacity : ℕ) (lent : Lent) (d : Definition) (store queue images : L
   pub sized-append : (e : Entry) → Shape e → known d (key-of e) ≡ true → holder (entries queue count) (e .file) (e .isn) ≡ Free → count < capacity
       → Sized capacity lent d store (append queue count e) images (count + 1)
   unfolding append
-  sized-append e shape inside free more = record {
-    shape = s .shape;
-    valid = s .valid;
-    capacity-sound = s .capacity-sound;
-    made = made-append d capacity store queue images count (s .made) e shape inside free more;
-    past = past-queue (append queue count e) images (alike-set capacity queue count _ more) (alike-self (capacity * width) images);
-  }
+  sized-append e shape inside free more = sized-as _ _ _ _
+      (made-append d capacity store queue images count (s .made) e shape inside free more)
+      (past-queue (append queue count e) images (alike-set capacity queue count _ more) (alike-self (capacity * width) images))
 
   -- ---- entries go
   module _ (which : Removal) where
@@ -111,39 +119,27 @@ module _ (capacity : ℕ) (lent : Lent) (d : Definition) (store queue images : L
         (alike-closed width (capacity * width) flags images (omega (arith, blocks width, s .made .image-room)) (blocks width))
 
     pub sized-removed : Sized capacity lent d store (remove-queue queue images count width which) (remove-images queue images count width which) (remove-count queue images count width which)
-    sized-removed = record {
-      shape = s .shape;
-      valid = s .valid;
-      capacity-sound = s .capacity-sound;
-      made = made-remove d capacity store queue images count (s .made) which;
-      past = past-queue _ _ queue-left images-left;
-    }
+    sized-removed = sized-as _ _ _ _
+        (made-remove d capacity store queue images count (s .made) which)
+        (past-queue _ _ queue-left images-left)
 
   -- ---- a user's images put back
   pub sized-restored : (u : ℕ) → Sized capacity lent d (restore d width u queue images count store) queue images count
-  sized-restored u = record {
-    shape = s .shape;
-    valid = s .valid;
-    capacity-sound = s .capacity-sound;
-    made = made-restore d capacity store queue images count (s .made) (s .shape) u;
-    past = past-store _ (record {
-      same-length = restore-length d (s .shape) u capacity store queue images count (s .made);
-      same-past = restore-past d (s .shape) u capacity store queue images count (s .made);
-    });
-  }
+  sized-restored u = sized-as _ _ _ _
+      (made-restore d capacity store queue images count (s .made) (s .shape) u)
+      (past-store _ (record {
+        same-length = restore-length d (s .shape) u capacity store queue images count (s .made);
+        same-past = restore-past d (s .shape) u capacity store queue images count (s .made);
+      }))
 
   -- ---- a record put
   pub sized-put : (k : ℕ) (x : Slot) → Sized capacity lent d (put d store k x) queue images count
-  sized-put k x = record {
-    shape = s .shape;
-    valid = s .valid;
-    capacity-sound = s .capacity-sound;
-    made = made-put d capacity store queue images count (s .made) (s .shape) k x;
-    past = past-store _ (record {
-      same-length = put-length-same d (s .shape) store k x (s .made .store-room);
-      same-past = put-past d (s .shape) store k x (s .made .store-room);
-    });
-  }
+  sized-put k x = sized-as _ _ _ _
+      (made-put d capacity store queue images count (s .made) (s .shape) k x)
+      (past-store _ (record {
+        same-length = put-length-same d (s .shape) store k x (s .made .store-room);
+        same-past = put-past d (s .shape) store k x (s .made .store-room);
+      }))
 
   -- ---- a first change, or a later one
   module _ (at : ℕ) (existed : Bool) (content : List ℕ) (inside : at < count) where
@@ -176,10 +172,6 @@ module _ (capacity : ℕ) (lent : Lent) (d : Definition) (store queue images : L
         go false false = alike-self (capacity * width) images
 
     pub sized-first-change : Sized capacity lent d store (first-change-queue queue at existed) (first-change-images queue images width at existed content) count
-    sized-first-change = record {
-      shape = s .shape;
-      valid = s .valid;
-      capacity-sound = s .capacity-sound;
-      made = made-first-change d capacity store queue images count (s .made) at existed content inside;
-      past = past-queue _ _ queue-marked images-changed;
-    }
+    sized-first-change = sized-as _ _ _ _
+        (made-first-change d capacity store queue images count (s .made) at existed content inside)
+        (past-queue _ _ queue-marked images-changed)

@@ -30,7 +30,7 @@ use Rattle.nucleus.specs.declared.Response.the-variants.{BackedOut, CommandUnkn
 use Rattle.nucleus.specs.declared.User.{User}
 use Rattle.history.specs.Journal as journal
 use Rattle.history.specs.Journal.{Journal, Change, new-member, member, strikes, struck, is-early, answered, fed}
-use Rattle.history.specs.Run.{Given, World, result, called}
+use Rattle.history.specs.Statements.{unusable}
 use Rattle.history.specs.Lent.{Lent}
 use Rattle.history.specs.Kept.{Kept, Rested, definition-of, user-sound, is-active, change-sound, member-of, one-of-users}
 use Rattle.history.specs.Accepted.{accepted, is-cause}
@@ -205,13 +205,9 @@ module _ (lent : Lent) (n : Nucleus) (j : Journal) (r : Request) (p : Passed (r 
       go (fails o) (fails e) = rw (o, e) (performed lent m j r passed-session (ready o (λ ends. rw ends at e)))
 
 -- ---- a call
-abbrev pub not-of-list : ℕ → Bool
-not-of-list response = any (eqb response) (10 ∷ 11 ∷ 12 ∷ [])
-
 pub record Stepped (capacity : ℕ) (lent : Lent) (call : Call) (format buffer : List ℕ) (j : Journal) (x : Result) : Type 0 where
   pub passed : Passed capacity lent (x .nucleus) (fed call format buffer (number (x .answer .response)) (x .answer .isn) j)
-  -- no call of a list answers 10, 11 or 12
-  pub of-list : not-of-list (number (x .answer .response)) ≡ false
+  pub usable : unusable (number (x .answer .response)) ≡ false
 
 first-three : (a b c more : Bool) → (a || (b || (c || more))) ≡ false → (a || (b || (c || false))) ≡ false
 first-three true b c more h = h
@@ -219,14 +215,14 @@ first-three false true c more h = h
 first-three false false true more h = h
 first-three false false false more h = refl
 
-early-of-list : (response : ℕ) → is-early response ≡ false → not-of-list response ≡ false
-early-of-list response h = first-three (eqb response 10) (eqb response 11) (eqb response 12) _ h
+early-usable : (response : ℕ) → is-early response ≡ false → unusable response ≡ false
+early-usable response h = first-three (eqb response 10) (eqb response 11) (eqb response 12) _ h
 
 module _ (capacity : ℕ) (lent : Lent) (n : Nucleus) (j : Journal) (p : Passed capacity lent n j) (call : Call) (format buffer : List ℕ) where
   -- 22 and 72: all is as it was
-  refused-first : (c : Response) → is-early (number c) ≡ true → not-of-list (number c) ≡ false → Stepped capacity lent call format buffer j (refusal buffer n c)
+  refused-first : (c : Response) → is-early (number c) ≡ true → unusable (number c) ≡ false → Stepped capacity lent call format buffer j (refusal buffer n c)
   unfolding fed
-  refused-first c early of = record { passed = rw early p; of-list = of }
+  refused-first c early of = record { passed = rw early p; usable = of }
 
   -- past the clock
   served-known : (c : Command) → command-of (call .command) ≡ some c → has-option c (call .option) ≡ true → within 1 max-users (call .user) ≡ true
@@ -237,7 +233,7 @@ module _ (capacity : ℕ) (lent : Lent) (n : Nucleus) (j : Journal) (p : Passed 
       let s = served lent (nucleus.clocked (call .clock) n) (journal.clocked (call .clock) j) r (passed-clock capacity lent (call .clock) n j (p .kept))
       (within-least 1 max-users (call .user) user) (within-most 1 max-users (call .user) user) option
       in
-      record { passed = rw (s .not-early, known) (s .passed); of-list = early-of-list (number (serve r (nucleus.clocked (call .clock) n) .answer .response)) (s .not-early) }
+      record { passed = rw (s .not-early, known) (s .passed); usable = early-usable (number (serve r (nucleus.clocked (call .clock) n) .answer .response)) (s .not-early) }
 
   pub stepped : Stepped capacity lent call format buffer j (step capacity call format buffer n)
   unfolding step rows-first
