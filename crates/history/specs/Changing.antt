@@ -1,20 +1,12 @@
 -- What is kept where A1, E1, N1 or N2 changes a record.
 -- Assumes nothing.
-use Prim.Native.Nat.{ℕ, _-_, _≤_, _<_}
+use Prim.Native.Nat.{ℕ, _<_}
 use native.Mathlib.Omega.{arith}
 use mathlib.Core.Path.{_≡_, refl, sym, ap, subst, _∙_}
-use mathlib.Core.Bool.{Bool, true, false, not, _||_}
-use mathlib.Core.List.{List, [], _∷_, _++_, map}
-use mathlib.Core.Option.{none, some}
-use lib.Dec.{ltb}
-use lib.ListN.{length}
+use mathlib.Core.List.{List}
 use borrow.Author.Tests.{lt-ltb}
-use Rattle.lists.specs.Tests.{within-inside}
-use Rattle.lists.specs.Folds.{all, all-append}
-use Rattle.definition.specs.Table.{files-of}
-use Rattle.definition.specs.Shape.{DefinitionShape}
+use Rattle.lists.specs.Folds.{all-append}
 use Rattle.definition.specs.declared.Definition.{Definition}
-use Rattle.transactions.specs.Slots.{Slot}
 use Rattle.transactions.specs.Machine as machine
 use Rattle.transactions.specs.Theorems.{Invariant, kept-act}
 use Rattle.ground.specs.Keys.{isn-bound, key}
@@ -22,19 +14,18 @@ use Rattle.ground.specs.Store.{put}
 use Rattle.ground.specs.Ground.{ground}
 use Rattle.ground.specs.Queue.{queue-of, Made}
 use Rattle.nucleus.specs.Nucleus.{Nucleus, Request, entries-of}
-use Rattle.nucleus.specs.WellMade.{marks-made, data-made}
 use Rattle.nucleus.specs.Target.{target-isn}
 use Rattle.nucleus.specs.Effects.{held}
 use Rattle.nucleus.specs.declared.User.{User}
-use Rattle.history.specs.Journal.{Journal, Change, begun, changed}
+use Rattle.history.specs.Journal.{Journal, begun, changed}
 use Rattle.history.specs.Updates.{updates, logged}
 use Rattle.history.specs.Lent.{Lent}
-use Rattle.history.specs.Kept.{Kept, Sized, People, Told, Rested, definition-of, ground-of, seen, is-active, entry-active, change-sound}
+use Rattle.history.specs.Kept.{Kept, Sized, People, Told, definition-of, ground-of, seen, is-active, change-sound}
 use Rattle.history.specs.Accepted.{Accepted}
 use Rattle.history.specs.Logs.{log-change}
 use Rattle.history.specs.Ends.{laws-of}
 use Rattle.history.specs.Passing.{Passed}
-use Rattle.history.specs.HoldMoves.{His, his-entry, held-definition, held-store, held-same, his-held, seen-held}
+use Rattle.history.specs.HoldMoves.{his-entry, held-definition, held-store, held-same, his-held, seen-held}
 use Rattle.history.specs.Holding.{Serving, Holdable, kept-held, held-active}
 use Rattle.history.specs.Performing.{rested-held}
 use Rattle.history.specs.Changes.{Changes, Aim, aim}

@@ -1,7 +1,6 @@
 -- What is kept where a transaction ends: all entries of a user go, his changes stand or are struck, and he is in no transaction.
 -- Assumes nothing.
 use Prim.Native.Nat.{ℕ, _-_, _≤_}
-use native.Mathlib.Omega.{arith}
 use mathlib.Core.Path.{_≡_, refl, sym, ap, _∙_}
 use mathlib.Core.Bool.{Bool, true, false, not, _&&_, _||_}
 use mathlib.Core.List.{List, [], _∷_, map}
@@ -11,29 +10,27 @@ use lib.ListN.{length, set, length-set}
 use borrow.Author.Tests.{not-true}
 use Rattle.lists.specs.Tests.{or-true, Outcome, holds, fails, outcome, and-left, and-right}
 use Rattle.lists.specs.Folds.{all}
-use Rattle.lists.specs.Sift.{keep, sift}
-use Rattle.definition.specs.Table.{files-of}
+use Rattle.lists.specs.Sift.{sift}
 use Rattle.definition.specs.declared.Definition.{Definition}
 use Rattle.images.specs.Images.{stays}
 use Rattle.images.specs.Laws.{entries-remove}
-use Rattle.images.specs.declared.Removal.{Removal}
 use Rattle.images.specs.declared.Removal.the-variants.{All}
 use Rattle.entries.specs.declared.Entry.{Entry}
 use Rattle.transactions.specs.Machine.{Laws, Machine, end, back-out, allowed}
-use Rattle.transactions.specs.Theorems.{Invariant, kept-act}
+use Rattle.transactions.specs.Theorems.{kept-act}
 use Rattle.ground.specs.Keys.{isn-bound}
 use Rattle.ground.specs.Ground.{laws}
 use Rattle.ground.specs.Entries.{made-fits}
 use Rattle.ground.specs.Acts.{act-end, act-back-out}
-use Rattle.nucleus.specs.Users.{ended, with-transaction}
-use Rattle.nucleus.specs.Nucleus.{Nucleus, max-users, user-of, with-user, with-state, change-user, entries-of}
+use Rattle.nucleus.specs.Users.{ended}
+use Rattle.nucleus.specs.Nucleus.{Nucleus, max-users, user-of, with-user, with-state, entries-of}
 use Rattle.nucleus.specs.Clock.{width-of, removed, restored, backed-out}
 use Rattle.nucleus.specs.declared.User.{User}
 use Rattle.history.specs.Journal.{Journal, Change, member, strikes, commits, struck}
 use Rattle.history.specs.Journal as journal
 use Rattle.history.specs.Updates.{updates, logged}
 use Rattle.history.specs.Lent.{Lent}
-use Rattle.history.specs.Kept.{Kept, Sized, People, Told, definition-of, ground-of, seen, user-sound, is-active, entry-active, change-sound, member-of, one-of-users}
+use Rattle.history.specs.Kept.{Kept, Sized, People, Told, definition-of, ground-of, seen, user-sound, is-active, entry-active, change-sound, member-of}
 use Rattle.history.specs.Sizes.{sized-removed, sized-restored}
 use Rattle.history.specs.UpdateLaws.{update-laws}
 use Rattle.history.specs.People.{all-set, sound-idle, active-other, members-set, member-is}

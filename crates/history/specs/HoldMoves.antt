@@ -9,7 +9,7 @@ use lib.Dec.{eqb}
 use lib.ListN.{length}
 use borrow.Author.Tests.{eqb-true, not-false}
 use Rattle.lists.specs.Tests.{Outcome, holds, fails, outcome, not-both, or-left, or-right, within-most, eqb-self}
-use Rattle.lists.specs.Folds.{any, all, distinct, all-append}
+use Rattle.lists.specs.Folds.{any, all, all-append}
 use Rattle.definition.specs.Table.{file-at}
 use Rattle.definition.specs.Shape.{DefinitionShape, file-shape-at}
 use Rattle.definition.specs.declared.Definition.{Definition}
@@ -18,9 +18,7 @@ use Rattle.layout.specs.Laws.{place-found}
 use Rattle.layout.specs.declared.Found.{Found}
 use Rattle.layout.specs.declared.Found.the-variants as found-at
 use Rattle.entries.specs.Entries.{is-of}
-use Rattle.repeats.specs.Repeats.{alike, repeated}
 use Rattle.queue.specs.Queue.{seek, holder}
-use Rattle.lists.specs.Distinct.{distinct-last}
 use Rattle.entries.specs.Laws.{Shape, length-entries}
 use Rattle.queue.specs.Laws.{free-none, entries-append, length-append-entry}
 use Rattle.entries.specs.declared.Entry.{Entry}
@@ -28,7 +26,6 @@ use Rattle.queue.specs.declared.Lookup.{Lookup}
 use Rattle.queue.specs.declared.Lookup.the-variants.{Held, Free}
 use Rattle.transactions.specs.Machine as machine
 use Rattle.ground.specs.Keys.{isn-bound, key, known, known-at, known-found, file-of-key, isn-of-key}
-use Rattle.ground.specs.Queue.{entry-known}
 use Rattle.ground.specs.Reading.{found-passes, other-holds}
 use Rattle.ground.specs.Entries.{queue-hold, queue-held}
 use Rattle.nucleus.specs.Users.{started}

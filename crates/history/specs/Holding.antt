@@ -2,19 +2,14 @@
 -- Assumes nothing.
 use Prim.Native.Nat.{ℕ, _-_, _≤_, _<_}
 use native.Mathlib.Omega.{arith}
-use mathlib.Core.Path.{_≡_, refl, sym, ap, _∙_}
-use mathlib.Core.Bool.{Bool, true, false}
-use mathlib.Core.List.{List, [], _∷_}
-use mathlib.Core.Option.{none, some}
-use lib.ListN.{length, set}
+use mathlib.Core.Path.{_≡_, sym, ap, _∙_}
+use mathlib.Core.Bool.{true, false}
+use mathlib.Core.List.{List}
+use lib.ListN.{set}
 use Rattle.lists.specs.Tests.{within, Outcome, holds, fails, outcome, within-inside, and-right}
-use Rattle.lists.specs.Folds.{all, all-at}
-use Rattle.definition.specs.declared.Definition.{Definition}
-use Rattle.queue.specs.Queue.{holder}
+use Rattle.lists.specs.Folds.{all-at}
 use Rattle.entries.specs.Laws.{no-entry}
-use Rattle.queue.specs.Laws.{Found, held-found}
-use Rattle.entries.specs.declared.Entry.{Entry}
-use Rattle.queue.specs.declared.Lookup.{Lookup}
+use Rattle.queue.specs.Laws.{held-found}
 use Rattle.transactions.specs.Machine.{hold, with-hold, act, log}
 use Rattle.transactions.specs.Theorems.{Invariant, kept-act}
 use Rattle.ground.specs.Keys.{isn-bound, key, known}
@@ -26,14 +21,14 @@ use Rattle.nucleus.specs.declared.User.{User}
 use Rattle.history.specs.Journal.{Journal, member, with-member, start-at, begun}
 use Rattle.history.specs.Updates.{logged}
 use Rattle.history.specs.Lent.{Lent}
-use Rattle.history.specs.Kept.{Kept, People, definition-of, ground-of, seen, user-sound, is-active, entry-active, member-of, start-of, one-of-users}
-use Rattle.history.specs.People.{ActiveSound, active-sound, sound-active, active-own, member-is}
+use Rattle.history.specs.Kept.{Kept, People, definition-of, ground-of, seen, user-sound, is-active, entry-active, member-of, start-of}
+use Rattle.history.specs.People.{sound-active, active-own, member-is}
 use Rattle.history.specs.Keeping.{people-user, told-user, same-member}
 use Rattle.history.specs.Sizes.{sized-append}
 use Rattle.history.specs.Ends.{laws-of}
 use Rattle.history.specs.Passing.{user-known}
-use Rattle.history.specs.QueueMoves.{queue-seen, MadeIn}
-use Rattle.history.specs.HoldMoves.{His, his-entry, nobodys, held-anew, held-his, held-new, new-shape, seen-held, all-held, hold-allowed}
+use Rattle.history.specs.QueueMoves.{queue-seen}
+use Rattle.history.specs.HoldMoves.{his-entry, nobodys, held-anew, held-his, held-new, new-shape, seen-held, all-held, hold-allowed}
 
 -- a caller that may hold: in his session, not marked, not access-only
 pub record Serving (u : ℕ) (n : Nucleus) : Type 0 where

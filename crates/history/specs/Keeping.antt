@@ -1,16 +1,14 @@
 -- What is kept where a call changes a user, ET data, N1's mark or the clock, and neither store, queue nor images.
 -- Assumes nothing.
-use Prim.Native.Nat.{ℕ, zero, suc, _-_, _≤_, _<_, max}
-use native.Mathlib.Omega.{arith}
+use Prim.Native.Nat.{ℕ, zero, suc, _-_, _≤_, _<_}
 use mathlib.Core.Path.{_≡_, refl, sym, ap, _∙_}
-use mathlib.Core.Bool.{Bool, true, false, not, _||_}
+use mathlib.Core.Bool.{true, not, _||_}
 use mathlib.Core.List.{List, [], _∷_, map}
 use lib.Dec.{leb, ltb}
 use lib.ListN.{length, getD, set, length-set}
 use lib.Seq.{set-getD, getD-take}
 use borrow.Author.Tests.{le-leb}
 use Rattle.lists.specs.Tests.{Outcome, holds, fails, outcome, and-left, and-right}
-use Rattle.lists.specs.Folds.{all}
 use Rattle.definition.specs.Table.{beyond, file-at, file-count, files-of}
 use Rattle.ground.specs.Keys.{isn-bound}
 use Rattle.definition.specs.declared.File.{File}
@@ -19,7 +17,7 @@ use Rattle.nucleus.specs.Nucleus.{Nucleus, max-users, user-of, with-user, with-
 use Rattle.nucleus.specs.WellMade.{marks-made, data-made}
 use Rattle.nucleus.specs.declared.User.{User}
 use Rattle.nucleus.specs.declared.EtData.{EtData}
-use Rattle.history.specs.Journal.{Journal, Member, Change, new-member, member, with-member}
+use Rattle.history.specs.Journal.{Journal, Change, new-member, with-member}
 use Rattle.history.specs.Lent.{Lent}
 use Rattle.history.specs.Kept.{Kept, People, Told, definition-of, user-sound, is-active, entry-active, change-sound, member-of, one-of-users}
 use Rattle.history.specs.People.{all-implies, all-set, sound-later, active-kept, members-set, member-is}

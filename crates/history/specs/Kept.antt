@@ -3,14 +3,14 @@
 -- queue and images.
 use Prim.Native.Nat.{ℕ, _-_}
 use mathlib.Core.Path.{_≡_}
-use mathlib.Core.Bool.{Bool, true, false, not, _&&_, _||_}
+use mathlib.Core.Bool.{Bool, true, not, _&&_, _||_}
 use mathlib.Core.List.{List, map}
 use mathlib.Core.Option.{Option, none, some}
-use lib.Dec.{eqb, leb, ltb}
+use lib.Dec.{leb, ltb}
 use lib.ListN.{length, getD}
 use Rattle.lists.specs.Tests.{cond, within}
 use Rattle.lists.specs.Folds.{all}
-use Rattle.definition.specs.Table.{max-files, files-of}
+use Rattle.definition.specs.Table.{files-of}
 use Rattle.definition.specs.Shape.{DefinitionShape}
 use Rattle.definition.specs.declared.Definition.{Definition}
 use Rattle.validity.specs.Validity as validity
@@ -24,9 +24,7 @@ use Rattle.nucleus.specs.Users.{default-time-limit, fresh-user, is-due}
 use Rattle.nucleus.specs.Nucleus.{Nucleus, max-users, max-capacity, entries-of}
 use Rattle.nucleus.specs.WellMade.{marks-made, data-made}
 use Rattle.nucleus.specs.declared.User.{User}
-use Rattle.nucleus.specs.declared.State.{State}
 use Rattle.history.specs.Journal.{Journal, Member, Change}
-use Rattle.history.specs.Run.{World}
 use Rattle.history.specs.Updates.{updates, logged}
 use Rattle.history.specs.Lent.{Lent, Past}
 

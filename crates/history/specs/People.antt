@@ -1,24 +1,22 @@
 -- One user of the list changes: what that does to each user's own soundness, to whose entries and changes stand, and to the journal's members.
 -- Assumes nothing.
-use Prim.Native.Nat.{ℕ, zero, suc, _+_, _-_, _≤_, suc-le-suc, _<_}
+use Prim.Native.Nat.{ℕ, zero, suc, _-_, _≤_, suc-le-suc, _<_}
 use native.Mathlib.Omega.{arith}
-use mathlib.Core.Path.{_≡_, refl, sym, ap, _∙_}
-use mathlib.Core.Bool.{Bool, true, false, not, _&&_, _||_}
+use mathlib.Core.Path.{_≡_, refl}
+use mathlib.Core.Bool.{Bool, true, false, not, _&&_}
 use mathlib.Core.List.{List, [], _∷_, map}
-use mathlib.Core.Option.{Option, none, some}
-use lib.Dec.{eqb, leb, ltb}
-use lib.ListN.{length, getD, set, length-set, length-map, List·getD-map}
-use lib.Seq.{getD-set-same, getD-set-other, set-getD, set-set}
-use borrow.Author.Tests.{eqb-true, eqb-false, leb-true, le-leb, not-true, ne-eqb}
-use Rattle.lists.specs.Tests.{or-true, cond, within, within-inside, within-least, within-most, Outcome, holds, fails, outcome, and-left, and-right, not-both, eqb-self}
+use lib.Dec.{eqb, leb}
+use lib.ListN.{length, getD, set, List·getD-map}
+use lib.Seq.{getD-set-same, getD-set-other}
+use borrow.Author.Tests.{eqb-true, eqb-false, leb-true, le-leb, not-true}
+use Rattle.lists.specs.Tests.{or-true, within, within-inside, within-least, Outcome, holds, fails, outcome, and-left, and-right}
 use Rattle.lists.specs.Folds.{all}
 use Rattle.lists.specs.Maps.{map-set}
-use Rattle.entries.specs.declared.Entry.{Entry}
 use Rattle.nucleus.specs.Users.{fresh-user}
 use Rattle.nucleus.specs.Nucleus.{max-users}
 use Rattle.nucleus.specs.declared.User.{User}
-use Rattle.history.specs.Journal.{Journal, Member, Change, new-member, member}
-use Rattle.history.specs.Kept.{user-sound, one-of-users, is-active, entry-active, member-of, change-sound}
+use Rattle.history.specs.Journal.{Journal, member}
+use Rattle.history.specs.Kept.{user-sound, one-of-users, is-active, member-of}
 
 -- ---- every element, of a list that changes
 module _ {A : Type 0} where

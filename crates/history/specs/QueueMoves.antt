@@ -2,13 +2,13 @@
 -- Assumes nothing.
 use Prim.Native.Nat.{ℕ, _≤_, _<_}
 use native.Mathlib.Omega.{arith}
-use mathlib.Core.Path.{_≡_, refl, ap, _∙_}
+use mathlib.Core.Path.{_≡_, refl}
 use mathlib.Core.Bool.{Bool, true, false, not, _&&_, _||_}
 use mathlib.Core.List.{List, [], _∷_}
 use lib.Dec.{eqb}
 use lib.ListN.{length}
 use borrow.Author.Tests.{eqb-true, not-true, not-false}
-use Rattle.lists.specs.Tests.{cond, not-both, and-left, and-right, or-left, or-right}
+use Rattle.lists.specs.Tests.{not-both, and-left, and-right, or-left, or-right}
 use Rattle.lists.specs.Folds.{any, all, distinct}
 use Rattle.lists.specs.Sift.{keep, sift, all-keeps}
 use Rattle.repeats.specs.Repeats.{alike, repeated}

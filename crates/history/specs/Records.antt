@@ -3,9 +3,8 @@
 use Prim.Native.Nat.{ℕ, _≤_, _<_}
 use native.Mathlib.Omega.{arith}
 use mathlib.Core.Path.{_≡_, refl, sym, ap, _∙_}
-use mathlib.Core.Logic.{_≢_}
 use mathlib.Core.Bool.{Bool, true, false, not, _&&_, _||_}
-use mathlib.Core.List.{List, [], _∷_, map}
+use mathlib.Core.List.{List, [], _∷_}
 use mathlib.Core.Option.{Option, none, some}
 use lib.Dec.{eqb, ltb}
 use lib.ListN.{length}
@@ -14,7 +13,7 @@ use Rattle.lists.specs.Tests.{and-false, cond, Outcome, holds, fails, outcome, 
 use Rattle.lists.specs.Folds.{any, all}
 use Rattle.lists.specs.Sift.{any-sift}
 use Rattle.definition.specs.Table.{beyond, file-at, field-at, field-count}
-use Rattle.definition.specs.Shape.{DefinitionShape, file-shape-at}
+use Rattle.definition.specs.Shape.{file-shape-at}
 use Rattle.definition.specs.declared.Definition.{Definition}
 use Rattle.definition.specs.declared.File.{File}
 use Rattle.definition.specs.declared.FieldOption.the-variants.{Unique}
@@ -25,10 +24,10 @@ use Rattle.layout.specs.declared.Found.the-variants.{At, Nowhere}
 use Rattle.lists.specs.Numbers.{numbers}
 use Rattle.ground.specs.Lists.{in-numbers}
 use Rattle.store.specs.Store as records
-use Rattle.store.specs.Store.{slot-count, file-part, field-value}
+use Rattle.store.specs.Store.{slot-count, file-part}
 use Rattle.transactions.specs.Machine.{replay}
-use Rattle.transactions.specs.Theorems.{same-slots, no-value-twice, Two, Apart}
-use Rattle.ground.specs.Keys.{isn-bound, key, key-file, key-isn, file-of-key, isn-of-key, key-test, file-found, file-of, known, known-at, keys, keys-known}
+use Rattle.transactions.specs.Theorems.{same-slots, no-value-twice}
+use Rattle.ground.specs.Keys.{isn-bound, key, key-file, file-of-key, isn-of-key, key-test, file-found, file-of, known, known-at, keys, keys-known}
 use Rattle.ground.specs.Store.{get, get-at}
 use Rattle.ground.specs.StoreLaws.{get-is}
 use Rattle.ground.specs.Ground.{is-unique, uniques}
@@ -38,7 +37,7 @@ use Rattle.nucleus.specs.Target.{file-in, part-in}
 use Rattle.history.specs.Journal.{Journal, Change, apply, is-at, replayed, record-told}
 use Rattle.history.specs.Run.{record-in}
 use Rattle.history.specs.Claim.{SameRecords, UniqueValues, file-numbered}
-use Rattle.history.specs.Updates.{as-change, logged}
+use Rattle.history.specs.Updates.{logged}
 use Rattle.history.specs.Lent.{Lent}
 use Rattle.history.specs.Kept.{Kept, definition-of, ground-of, seen, is-active, change-sound}
 use Rattle.history.specs.Ends.{laws-of}

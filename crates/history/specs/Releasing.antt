@@ -2,13 +2,11 @@
 -- Assumes nothing.
 use Prim.Native.Nat.{ℕ, _<_}
 use mathlib.Core.Path.{_≡_, refl}
-use mathlib.Core.Bool.{Bool, true, false}
-use mathlib.Core.List.{List}
-use Rattle.lists.specs.Folds.{all}
+use mathlib.Core.Bool.{true, false}
 use Rattle.queue.specs.Queue.{holder}
 use Rattle.images.specs.declared.Removal.{Removal}
 use Rattle.images.specs.declared.Removal.the-variants.{One, Unchanged}
-use Rattle.transactions.specs.Machine.{Operation, Machine, release, release-all, allowed, act, log}
+use Rattle.transactions.specs.Machine.{Operation, release, release-all, allowed, act, log}
 use Rattle.transactions.specs.Theorems.{Invariant, kept-act}
 use Rattle.ground.specs.Keys.{isn-bound, key}
 use Rattle.nucleus.specs.Nucleus.{Nucleus, entries-of}

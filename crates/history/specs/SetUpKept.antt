@@ -6,7 +6,7 @@ use mathlib.Core.Path.{_≡_, refl, sym, _∙_}
 use mathlib.Core.Bool.{true, false}
 use mathlib.Core.List.{List, [], _∷_}
 use lib.Dec.{eqb}
-use lib.ListN.{length, drop, replicate}
+use lib.ListN.{length, replicate}
 use borrow.Author.Tests.{le-leb, ltb-false, not-false}
 use Rattle.lists.specs.Tests.{within, or-left, or-right, Outcome, holds, fails, outcome}
 use Rattle.definition.specs.Table.{max-files, file-count, files-of, no-definition}

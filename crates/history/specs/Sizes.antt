@@ -8,10 +8,10 @@ use mathlib.Core.Path.{_≡_, refl, _∙_}
 use mathlib.Core.Bool.{Bool, true, false, cond, _&&_}
 use mathlib.Core.List.{List, [], _∷_}
 use lib.Dec.{leb}
-use lib.ListN.{length, drop, set, length-set, length-map}
+use lib.ListN.{length, set, length-set, length-map}
 use lib.Seq.{sets, drop-set-lt}
 use borrow.Author.Tests.{leb-true}
-use Rattle.lists.specs.Tests.{Outcome, holds, fails, outcome, and-left, and-right}
+use Rattle.lists.specs.Tests.{Outcome, holds, fails, outcome, and-left}
 use Rattle.definition.specs.declared.Definition.{Definition}
 use Rattle.layout.specs.Layout.{store-size, image-length}
 use Rattle.entries.specs.Entries.{entries}

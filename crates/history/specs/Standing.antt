@@ -1,14 +1,11 @@
 -- What is kept makes a state well made and its lent buffers long enough: no call of a list answers 11 or 12.
 -- Assumes nothing.
-use Prim.Native.Nat.{ℕ, _*_, _≤_, _<_}
-use native.Mathlib.Omega.{arith}
-use mathlib.Core.Path.{_≡_, refl, sym, ap, _∙_}
-use mathlib.Core.Bool.{Bool, true, false, not, _&&_, _||_}
-use mathlib.Core.List.{List}
-use lib.Dec.{leb, ltb}
+use Prim.Native.Nat.{ℕ, _*_, _<_}
+use mathlib.Core.Path.{_≡_}
+use mathlib.Core.Bool.{true, false}
 use lib.ListN.{length, getD}
 use borrow.Author.Tests.{le-leb, le-ltb}
-use Rattle.lists.specs.Tests.{Outcome, holds, fails, outcome, within, and-left, and-right}
+use Rattle.lists.specs.Tests.{Outcome, holds, fails, outcome}
 use Rattle.lists.specs.Folds.{all, all-at, each-at}
 use Rattle.definition.specs.declared.Definition.{Definition}
 use Rattle.layout.specs.Layout.{store-size, image-length, place}
@@ -19,7 +16,7 @@ use Rattle.entries.specs.declared.Entry.{Entry}
 use Rattle.ground.specs.Keys.{isn-bound, key, file-of-key, isn-of-key, known, known-at}
 use Rattle.ground.specs.Queue.{entry-known}
 use Rattle.ground.specs.Reading.{entries-small}
-use Rattle.nucleus.specs.Nucleus.{Nucleus, max-users, max-capacity, entries-of}
+use Rattle.nucleus.specs.Nucleus.{Nucleus, entries-of}
 use Rattle.nucleus.specs.WellMade.{too-short, within-file, entry-made, user-made, well-made}
 use Rattle.nucleus.specs.declared.User.{User}
 use Rattle.history.specs.Journal.{Journal}

@@ -1,27 +1,27 @@
 -- One call, from its first row to its effect: what is kept stays so, nobody is overdue, and the journal is told the same.
 -- Assumes nothing.
-use Prim.Native.Nat.{ℕ, _-_, _≤_, _<_}
-use mathlib.Core.Path.{_≡_, refl, sym, ap, _∙_}
+use Prim.Native.Nat.{ℕ, _-_, _≤_}
+use mathlib.Core.Path.{_≡_, refl, ap, _∙_}
 use mathlib.Core.Bool.{Bool, true, false, not, _&&_, _||_}
 use mathlib.Core.List.{List, [], _∷_}
 use mathlib.Core.Option.{Option, none, some}
 use lib.Dec.{eqb, ltb}
 use lib.ListN.{set}
 use lib.Seq.{set-getD}
-use borrow.Author.Tests.{eqb-true, not-true, not-false}
-use Rattle.lists.specs.Tests.{and-false, cond, Outcome, holds, fails, outcome, within, within-least, within-most, not-both, and-left, and-right}
-use Rattle.lists.specs.Folds.{any, all}
+use borrow.Author.Tests.{eqb-true, not-true}
+use Rattle.lists.specs.Tests.{cond, Outcome, holds, fails, outcome, within, within-least, within-most, not-both, and-left, and-right}
+use Rattle.lists.specs.Folds.{all}
 use Rattle.lists.specs.Sift.{sift}
 use Rattle.ground.specs.Keys.{isn-bound}
 use Rattle.nucleus.specs.Commands.{command-of, one-of, has-option}
-use Rattle.nucleus.specs.Users.{opening, opened, marked, is-due}
+use Rattle.nucleus.specs.Users.{opened, marked, is-due}
 use Rattle.nucleus.specs.Responses.{number}
 use Rattle.nucleus.specs.Nucleus.{Nucleus, Request, Result, max-users, user-of, change-user}
 use Rattle.nucleus.specs.Clock as nucleus
 use Rattle.nucleus.specs.Clock.{backed-out}
-use Rattle.nucleus.specs.Rows.{row, first-cause, rows-first, rows-after-clock, rows-last, understood, overdue-mark, ends-active}
+use Rattle.nucleus.specs.Rows.{row, first-cause, rows-first, rows-last, understood, overdue-mark, ends-active}
 use Rattle.nucleus.specs.Effects.{effect}
-use Rattle.nucleus.specs.Step.{unless, refusal, perform, told, serve, request, serve-command, step}
+use Rattle.nucleus.specs.Step.{unless, refusal, perform, serve, request, serve-command, step}
 use Rattle.nucleus.specs.declared.Command.{Command}
 use Rattle.nucleus.specs.declared.Command.the-variants.{Op, Cl}
 use Rattle.nucleus.specs.declared.Call.{Call}
@@ -29,14 +29,13 @@ use Rattle.nucleus.specs.declared.Response.{Response}
 use Rattle.nucleus.specs.declared.Response.the-variants.{BackedOut, CommandUnknown, UserUnknown}
 use Rattle.nucleus.specs.declared.User.{User}
 use Rattle.history.specs.Journal as journal
-use Rattle.history.specs.Journal.{Journal, Change, new-member, member, strikes, struck, is-early, answered, fed}
+use Rattle.history.specs.Journal.{Journal, Change, new-member, member, strikes, struck, is-early, fed}
 use Rattle.history.specs.Statements.{unusable}
 use Rattle.history.specs.Lent.{Lent}
-use Rattle.history.specs.Kept.{Kept, Rested, definition-of, user-sound, is-active, change-sound, member-of, one-of-users}
+use Rattle.history.specs.Kept.{Kept, user-sound, is-active, change-sound, member-of}
 use Rattle.history.specs.Accepted.{accepted, is-cause}
 use Rattle.history.specs.People.{all-implies, active-sound, sound-idle, user-own, member-is}
 use Rattle.history.specs.Keeping.{kept-like}
-use Rattle.history.specs.Ends.{kept-backed-out}
 use Rattle.history.specs.Passing.{Passed, user-known, passed-clock}
 use Rattle.history.specs.Standing.{well-made-kept, long-kept}
 use Rattle.history.specs.Performing.{quiet-user, rested-set, idle-quiet, passed-backed-out}

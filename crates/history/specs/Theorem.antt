@@ -4,23 +4,22 @@ use Prim.Native.Nat.{ℕ, _-_, _≤_}
 use native.Mathlib.Omega.{arith}
 use mathlib.Core.Path.{_≡_, refl, sym, ap, subst, _∙_}
 use mathlib.Core.Logic.{_≢_}
-use mathlib.Core.Bool.{Bool, true, false, not, _&&_}
+use mathlib.Core.Bool.{true, false, not}
 use mathlib.Core.List.{List, [], _∷_, map}
-use mathlib.Core.Option.{Option, none, some}
+use mathlib.Core.Option.{none}
 use lib.Dec.{eqb}
 use lib.Seq.{getD-set-other}
 use borrow.Author.Tests.{eqb-false, not-true}
-use Rattle.lists.specs.Tests.{cond, Outcome, holds, fails, outcome, within, within-least, within-most, and-left, and-right, or-left, or-right}
+use Rattle.lists.specs.Tests.{within, within-least, and-left, and-right, or-left, or-right}
 use Rattle.lists.specs.Folds.{any, all, distinct}
 use Rattle.nucleus.specs.Commands.{command-of}
 use Rattle.nucleus.specs.Responses.{number}
 use Rattle.nucleus.specs.Nucleus.{Nucleus, Result, max-users}
 use Rattle.nucleus.specs.Step.{step, set-up}
 use Rattle.nucleus.specs.declared.Response.the-variants.{Good}
-use Rattle.history.specs.Journal as journal
-use Rattle.history.specs.Journal.{Journal, member, new-member, started, in-transaction, struck, fed, new-journal}
-use Rattle.history.specs.Run.{Given, World, result, called, run, begin, bt, back-outs, struck-all}
-use Rattle.history.specs.Claim.{Chosen, NeverWas, Requirement3}
+use Rattle.history.specs.Journal.{Journal, member, new-member, started, in-transaction, struck, fed}
+use Rattle.history.specs.Run.{Given, World, called, run, begin, bt, back-outs, struck-all}
+use Rattle.history.specs.Claim.{Chosen, Requirement3}
 use Rattle.history.specs.Statements.{unusable, NeverUnusable, StaysUsable, BackOutsAccepted, BackOutsAreCalls, NeverTouched}
 use Rattle.history.specs.Feeding.{Answered, answers}
 use Rattle.history.specs.Lent.{Lent, lent-at}
@@ -28,7 +27,7 @@ use Rattle.history.specs.Kept.{Kept}
 use Rattle.history.specs.Passing.{Passed}
 use Rattle.history.specs.Standing.{well-made-kept, long-kept}
 use Rattle.history.specs.SetUpKept.{kept-set-up, rested-set-up}
-use Rattle.history.specs.Stepping.{Stepped, stepped}
+use Rattle.history.specs.Stepping.{stepped}
 use Rattle.history.specs.Resting.{journal-rests, bt-good, inside}
 use Rattle.history.specs.Records.{same-records, unique-values}
 
