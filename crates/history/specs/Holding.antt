@@ -4,10 +4,10 @@ use Prim.Native.Nat.{ℕ, _-_, _≤_, _<_}
 use native.Mathlib.Omega.{arith}
 use mathlib.Core.Path.{_≡_, sym, ap, _∙_}
 use mathlib.Core.Bool.{true, false}
-use mathlib.Core.List.{List}
+use mathlib.Core.List.{List, [], _∷_}
 use lib.ListN.{set}
 use Rattle.lists.specs.Tests.{within, Outcome, holds, fails, outcome, within-inside, and-right}
-use Rattle.lists.specs.Folds.{all-at}
+use Rattle.lists.specs.Folds.{all-at, all-append}
 use Rattle.entries.specs.Laws.{no-entry}
 use Rattle.queue.specs.Laws.{held-found}
 use Rattle.transactions.specs.Machine.{hold, with-hold, act, log}
@@ -28,7 +28,7 @@ use Rattle.history.specs.Sizes.{sized-append}
 use Rattle.history.specs.Ends.{laws-of}
 use Rattle.history.specs.Passing.{user-known}
 use Rattle.history.specs.QueueMoves.{queue-seen}
-use Rattle.history.specs.HoldMoves.{his-entry, nobodys, held-anew, held-his, held-new, new-shape, seen-held, all-held, hold-allowed}
+use Rattle.history.specs.HoldMoves.{his-entry, nobodys, held-anew, held-his, held-new, new-shape, hold-allowed, entries-anew, seen-anew}
 
 -- a caller that may hold: in his session, not marked, not access-only
 pub record Serving (u : ℕ) (n : Nucleus) : Type 0 where
@@ -126,17 +126,18 @@ module _ (capacity : ℕ) (lent : Lent) (n : Nucleus) (j : Journal) (k : Kept ca
         user-count = old-people .user-count;
         users-sound = old-people .users-sound;
         entries-active =
-            rw (held-new r isn n none-his) at
-            (all-held n capacity (k .sized .made) (k .sized .shape) r isn (h .small) (h .inside) small-user (h .mine) (h .room) (entry-active us′) (old-people .entries-active) new-active);
+            rw (
+              entries-anew n capacity (k .sized .made) (k .sized .shape) r isn (h .small) (h .inside) small-user (h .mine) (h .room) none-his,
+              all-append (entry-active us′) (entries-of n) (entry-for r isn n ∷ []),
+              old-people .entries-active,
+              new-active,
+            );
       };
       marks-sound = k .marks-sound;
       data-sound = k .data-sound;
       told = told-user clock us u (s .least) (s .most) x (k .people .user-count) (λ a. x-active) j (k .told);
       invariant =
-          let seen-new : queue-seen (held-anew r isn n) ≡ with-hold u (key (r .call .file) isn) (queue-seen n) =
-          rw (held-new r isn n none-his) at (seen-held n capacity (k .sized .made) (k .sized .shape) r isn (h .small) (h .inside) small-user (h .mine) (h .room))
-          in
-          rw seen-new kept-hold;
+          rw (seen-anew n capacity (k .sized .made) (k .sized .shape) r isn (h .small) (h .inside) small-user (h .mine) (h .room) none-his) kept-hold;
     }
 
   pub kept-held : Kept capacity lent (held r isn n) (begun u j)

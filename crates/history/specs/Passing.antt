@@ -13,11 +13,12 @@ use Rattle.nucleus.specs.Nucleus.{Nucleus, max-users, user-of, with-clock, with
 use Rattle.nucleus.specs.Clock as nucleus
 use Rattle.nucleus.specs.Clock.{backed-out, removed}
 use Rattle.nucleus.specs.declared.User.{User}
+use Rattle.history.specs.Lists.{all-getD, all-index}
 use Rattle.history.specs.Journal as journal
 use Rattle.history.specs.Journal.{Journal, member, struck, is-late}
 use Rattle.history.specs.Lent.{Lent}
 use Rattle.history.specs.Kept.{Kept, Rested, user-sound, member-of, start-of}
-use Rattle.history.specs.People.{all-getD, all-index, active-sound, sound-idle, user-own, user-other, member-is}
+use Rattle.history.specs.People.{active-sound, sound-idle, user-own, user-other, member-is}
 use Rattle.history.specs.Keeping.{kept-like, kept-clock}
 use Rattle.history.specs.Ends.{kept-backed-out}
 

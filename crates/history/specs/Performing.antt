@@ -16,11 +16,12 @@ use Rattle.nucleus.specs.WellMade.{data-made}
 use Rattle.nucleus.specs.Clock.{removed, backed-out}
 use Rattle.nucleus.specs.Effects.{held, data-for, next-sequence, ended-for}
 use Rattle.nucleus.specs.declared.User.{User}
+use Rattle.history.specs.Lists.{all-set, all-getD}
 use Rattle.history.specs.Journal.{Journal, with-member, begun, struck, limited}
 use Rattle.history.specs.Journal as journal
 use Rattle.history.specs.Lent.{Lent}
 use Rattle.history.specs.Kept.{Kept, Rested, member-of}
-use Rattle.history.specs.People.{all-set, all-getD, sound-idle, member-is}
+use Rattle.history.specs.People.{sound-idle, member-is}
 use Rattle.history.specs.Keeping.{kept-user, kept-data}
 use Rattle.history.specs.Ends.{idle-member, kept-ended, kept-backed-out}
 use Rattle.history.specs.Passing.{Passed}

@@ -19,10 +19,11 @@ use Rattle.ground.specs.Reading.{entries-small}
 use Rattle.nucleus.specs.Nucleus.{Nucleus, entries-of}
 use Rattle.nucleus.specs.WellMade.{too-short, within-file, entry-made, user-made, well-made}
 use Rattle.nucleus.specs.declared.User.{User}
+use Rattle.history.specs.Lists.{all-implies, all-index}
 use Rattle.history.specs.Journal.{Journal}
 use Rattle.history.specs.Lent.{Lent}
 use Rattle.history.specs.Kept.{Kept, definition-of, user-sound, entry-active}
-use Rattle.history.specs.People.{active-sound, all-implies, all-index}
+use Rattle.history.specs.People.{active-sound}
 
 -- an entry of the table is within its file
 within-of-known : (d : Definition) (file isn : ℕ) → isn < isn-bound → known d (key file isn) ≡ true → within-file d (place d file) isn ≡ true

@@ -5,14 +5,12 @@ use mathlib.Core.Path.{_≡_, refl, ap, _∙_}
 use mathlib.Core.Bool.{Bool, true, false, not, _&&_, _||_}
 use mathlib.Core.List.{List, [], _∷_}
 use mathlib.Core.Option.{Option, none, some}
-use lib.Dec.{eqb, ltb}
+use lib.Dec.{eqb}
 use lib.ListN.{set}
 use lib.Seq.{set-getD}
 use borrow.Author.Tests.{eqb-true, not-true}
 use Rattle.lists.specs.Tests.{cond, Outcome, holds, fails, outcome, within, within-least, within-most, not-both, and-left, and-right}
-use Rattle.lists.specs.Folds.{all}
 use Rattle.lists.specs.Sift.{sift}
-use Rattle.ground.specs.Keys.{isn-bound}
 use Rattle.nucleus.specs.Commands.{command-of, one-of, has-option}
 use Rattle.nucleus.specs.Users.{opened, marked, is-due}
 use Rattle.nucleus.specs.Responses.{number}
@@ -28,13 +26,14 @@ use Rattle.nucleus.specs.declared.Call.{Call}
 use Rattle.nucleus.specs.declared.Response.{Response}
 use Rattle.nucleus.specs.declared.Response.the-variants.{BackedOut, CommandUnknown, UserUnknown}
 use Rattle.nucleus.specs.declared.User.{User}
+use Rattle.history.specs.Lists.{all-implies, sift-all}
 use Rattle.history.specs.Journal as journal
 use Rattle.history.specs.Journal.{Journal, Change, new-member, member, strikes, struck, is-early, fed}
 use Rattle.history.specs.Statements.{unusable}
 use Rattle.history.specs.Lent.{Lent}
-use Rattle.history.specs.Kept.{Kept, user-sound, is-active, change-sound, member-of}
+use Rattle.history.specs.Kept.{Kept, user-sound, change-sound, member-of}
 use Rattle.history.specs.Accepted.{accepted, is-cause}
-use Rattle.history.specs.People.{all-implies, active-sound, sound-idle, user-own, member-is}
+use Rattle.history.specs.People.{change-active, active-sound, sound-idle, user-own, member-is}
 use Rattle.history.specs.Keeping.{kept-like}
 use Rattle.history.specs.Passing.{Passed, user-known, passed-clock}
 use Rattle.history.specs.Standing.{well-made-kept, long-kept}
@@ -60,20 +59,13 @@ module _ (lent : Lent) (n : Nucleus) (j : Journal) (r : Request) (p : Passed (r 
       go (some c) e = refused-plain c (first-plain (rows-last r n) refl c e)
 
 -- ---- a user in no transaction has nothing to strike
-sift-all : {A : Type 0} (p : A → Bool) (xs : List A) → all p xs ≡ true → sift p xs ≡ xs
-sift-all p [] h = refl
-sift-all p (x ∷ xs) h = rw (and-left (p x) (all p xs) h) (ap (λ l. x ∷ l) (sift-all p xs (and-right (p x) (all p xs) h)))
-
 module _ (capacity : ℕ) (lent : Lent) (n : Nucleus) (j : Journal) (k : Kept capacity lent n j) (u : ℕ) (idle : user-of n u .active ≡ false) where
   not-struck : (c : Change) → change-sound (n .state .users) c ≡ true → not (strikes u c) ≡ true
   not-struck c h = go (outcome (c .uncommitted)) (outcome (eqb (c .user) u))
     where
-      small : ltb (c .isn) isn-bound ≡ true
-      small = and-left (ltb (c .isn) isn-bound) (not (c .uncommitted) || is-active (n .state .users) (c .user)) h
-
       go : Outcome (c .uncommitted) → Outcome (eqb (c .user) u) → not (strikes u c) ≡ true
       go (holds o) (holds t) =
-          let a : is-active (n .state .users) (c .user) ≡ true = rw (small, o) at h in
+          let a = change-active (n .state .users) c h o in
           not-both (user-of n u .active) (and-right (within 1 max-users u) (user-of n u .active) (rw (eqb-true (c .user) u t) at a)) idle
       go (holds o) (fails t) = rw (o, t)
       go (fails o) t = rw o
