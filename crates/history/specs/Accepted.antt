@@ -4,7 +4,7 @@ use mathlib.Core.Path.{_≡_, refl}
 use mathlib.Core.Bool.{Bool, true, false}
 use mathlib.Core.List.{List, [], _∷_}
 use mathlib.Core.Option.{Option, none, some}
-use Rattle.lists.specs.Tests.{cond, not-both}
+use Rattle.lists.specs.Tests.{not-both}
 use Rattle.lists.specs.Folds.{Each}
 use Rattle.nucleus.specs.Nucleus.{Nucleus, Request}
 use Rattle.nucleus.specs.Rows.{Row, first-cause, rows-last, access-refused, file-unknown, isn-invalid, format-refused, field-twice, record-length-refused, value-refused, none-found, held-elsewhere, presence-refused, not-held, release-refused, file-full, limit-reached, queue-full, value-taken}

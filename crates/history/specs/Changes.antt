@@ -20,7 +20,7 @@ use Rattle.layout.specs.Layout.{store-size, place}
 use Rattle.layout.specs.Laws.{place-found}
 use Rattle.layout.specs.declared.Found.{Found}
 use Rattle.layout.specs.declared.Found.the-variants as found-at
-use Rattle.lists.specs.Numbers.{from-to, numbers, each-number}
+use Rattle.lists.specs.Numbers.{from-to, each-number}
 use Rattle.store.specs.Store.{first-of, record-of, lowest}
 use Rattle.store.specs.Store as records
 use Rattle.store.specs.Finding.{lowest-found}

@@ -25,18 +25,17 @@ use Rattle.transactions.specs.Machine as machine
 use Rattle.ground.specs.Keys.{key, key-file, key-isn, Known, file-of-key, isn-of-key}
 use Rattle.ground.specs.Store.{get}
 use Rattle.ground.specs.Queue.{queue-of, Made}
-use Rattle.ground.specs.Reading.{found-passes, other-holds}
 use Rattle.ground.specs.Ground.{is-unique, uniques}
 use Rattle.ground.specs.Taken.{taken-is}
-use Rattle.queue.specs.declared.Lookup.{Lookup}
-use Rattle.queue.specs.declared.Lookup.the-variants.{Held, Free}
 use Rattle.nucleus.specs.Commands.{one-of}
 use Rattle.nucleus.specs.Nucleus.{Nucleus, Request}
 use Rattle.nucleus.specs.Target.{held-by-other, file, holder-of, target-isn}
 use Rattle.nucleus.specs.Rows.{held-elsewhere, queue-full, his, new-record, judged as judged-row, is-taken, value-taken}
 use Rattle.nucleus.specs.declared.Command.the-variants.{Hi, L4, A1, E1, N1, N2}
 use Rattle.history.specs.Updates.{FileUpdate, suits, judged, updates}
+use Rattle.history.specs.Lent.{Lent}
 use Rattle.history.specs.Kept.{definition-of, ground-of, seen}
+use Rattle.history.specs.HoldMoves.{other-seen}
 use Rattle.history.specs.Accepted.{Accepted}
 use Rattle.history.specs.Changes.{Changes, replaces, erases, adds, adds-there, rest-fails, Aim, file-is}
 use Rattle.history.specs.ChangesLogged.{update-of, slot-of, target-slot, old-width, new-width, old-there, applied}
@@ -65,10 +64,6 @@ module _ (r : Request) (n : Nucleus) (a : Accepted r n) (c : Changes r) where
   pub room-left : his r n ≡ false → n .state .count < r .capacity
   unfolding queue-full
   room-left new = leb-false (r .capacity) (n .state .count) (rest-fails (one-of (Hi ∷ L4 ∷ A1 ∷ E1 ∷ N1 ∷ N2 ∷ []) (r .command) && not (his r n)) _ (rw (holds-record, new)) (a .room))
-
-passes-other : (u : ℕ) (l : Lookup) → found-passes (λ v. not (eqb v u)) l ≡ held-by-other u l
-passes-other u (Held i e) = refl
-passes-other u Free = refl
 
 permitted : (a b c : Bool) → a ≡ false → b ≡ true → c ≡ false → (not a && b && not c) ≡ true
 permitted a b c h i j = rw (h, i, j)
@@ -107,9 +102,7 @@ module _ (r : Request) (n : Nucleus) (s : DefinitionShape (definition-of n)) (v 
   }
 
   pub nobody-else : machine.held-by-other u k (queue-of d (n .queue) (n .images) (n .state .count)) ≡ false
-  nobody-else =
-      other-holds d (n .queue) (n .images) (n .state .count) (made .single) (r .call .file) isn (t .small) u
-      ∙ passes-other u (holder-of r n isn) ∙ no-other r n a c
+  nobody-else = other-seen n capacity made u (r .call .file) isn (t .small) ∙ no-other r n a c
 
   pub may-change : updates d .may change k (get d (n .store) k) ≡ true
   may-change = rw (t .known, number-is, eqb-self (r .call .file)) (go c)
@@ -158,10 +151,10 @@ module _ (r : Request) (n : Nucleus) (s : DefinitionShape (definition-of n)) (v 
       any-sift (λ j. is-unique (field-at (file r n) j .option)) (λ j. judges j && taken-at j) (numbers (field-count (file r n)) 0)
       ∙ any-agree _ _ field-test (numbers (field-count (file r n)) 0) ∙ rest-fails _ _ brings (a .unique)
 
-  module _ (lent : List ℕ) where
+  module _ (lent : Lent) where
     new-free : one-of (A1 ∷ N1 ∷ N2 ∷ []) (r .command) ≡ true → machine.taken (ground-of lent n) u k change (some new) (seen lent n) ≡ false
     new-free brings =
-        taken-is d s v (n .store) (made .store-room) k home (updates d) lent change new (rw (t .found) at (new-width r n s (made .store-room) t)) u (n .queue) (n .images) (n .state .count) nobody-else
+        taken-is d s v (n .store) (made .store-room) k home (updates d) (lent .store) change new (rw (t .found) at (new-width r n s (made .store-room) t)) u (n .queue) (n .images) (n .state .count) nobody-else
         ∙ rw (isn-is, number-is) (rw (t .found) at (values-free brings))
 
     pub slot-free : machine.taken (ground-of lent n) u k change (slot-of r n c) (seen lent n) ≡ false

@@ -9,7 +9,6 @@ use mathlib.Core.Option.{none, some}
 use lib.ListN.{length, getD}
 use lib.Seq.{map-set-same}
 use Rattle.lists.specs.Folds.{all}
-use Rattle.definition.specs.Shape.{DefinitionShape}
 use Rattle.definition.specs.declared.Definition.{Definition}
 use Rattle.layout.specs.Layout.{store-size, place}
 use Rattle.layout.specs.declared.Found.the-variants as found-at
@@ -27,19 +26,20 @@ use Rattle.ground.specs.Lists.{all-over}
 use Rattle.ground.specs.Keys.{isn-bound, key}
 use Rattle.ground.specs.Store.{get, put-in, put}
 use Rattle.ground.specs.StoreLaws.{put-key}
-use Rattle.ground.specs.Queue.{queue-of, Made}
+use Rattle.ground.specs.Queue.{queue-of}
 use Rattle.ground.specs.Reading.{found-inside}
 use Rattle.ground.specs.FirstChange.{queue-first-change}
-use Rattle.ground.specs.Kept.{made-first-change, made-put}
 use Rattle.nucleus.specs.Nucleus.{Nucleus, Request, entries-of}
 use Rattle.nucleus.specs.Target.{store-with, found, file, part, record-at, holder-of, target-isn}
 use Rattle.nucleus.specs.Rows.{new-record}
 use Rattle.nucleus.specs.Effects.{held, imaged-at, imaged, with-part-of, written, erased}
-use Rattle.history.specs.Kept.{definition-of}
+use Rattle.history.specs.Lent.{Lent}
+use Rattle.history.specs.Kept.{Sized, definition-of}
+use Rattle.history.specs.Sizes.{sized-put, sized-first-change}
 use Rattle.history.specs.Changes.{Aim, slot-is}
 
 -- ---- what is asked of a hold: the caller's entry is in the queue, and nothing else has changed
-pub record Holding (capacity : ℕ) (r : Request) (n : Nucleus) (isn : ℕ) : Type 0 where
+pub record Holding (capacity : ℕ) (lent : Lent) (r : Request) (n : Nucleus) (isn : ℕ) : Type 0 where
   pub at : ℕ
   pub entry : Entry
   pub found : holder-of r (held r isn n) isn ≡ Held at entry
@@ -47,7 +47,7 @@ pub record Holding (capacity : ℕ) (r : Request) (n : Nucleus) (isn : ℕ) : Ty
   pub store : held r isn n .store ≡ n .store
   pub queue : queue-of (definition-of (held r isn n)) (held r isn n .queue) (held r isn n .images) (held r isn n .state .count)
       ≡ with-hold (r .call .user) (key (r .call .file) isn) (queue-of (definition-of n) (n .queue) (n .images) (n .state .count))
-  pub made : Made (definition-of (held r isn n)) capacity (held r isn n .store) (held r isn n .queue) (held r isn n .images) (held r isn n .state .count)
+  pub sized : Sized capacity lent (definition-of (held r isn n)) (held r isn n .store) (held r isn n .queue) (held r isn n .images) (held r isn n .state .count)
 
 -- ---- whose an entry is, and of what
 abbrev pub holding : Entry → ℕ × ℕ × ℕ
@@ -69,8 +69,7 @@ pub users-same : (p : ℕ → Bool) (es fs : List Entry) → map holding es ≡ 
 users-same p es fs h = sym (all-over holding (λ t. p (t .0)) es) ∙ ap (all (λ t. p (t .0))) h ∙ all-over holding (λ t. p (t .0)) fs
 
 -- ---- the image of an entry that is found
-module _ (capacity : ℕ) (r : Request) (h : Nucleus) (s : DefinitionShape (definition-of h))
-    (made : Made (definition-of h) capacity (h .store) (h .queue) (h .images) (h .state .count))
+module _ (capacity : ℕ) (lent : Lent) (r : Request) (h : Nucleus) (s : Sized capacity lent (definition-of h) (h .store) (h .queue) (h .images) (h .state .count))
     (i isn at : ℕ) (e : Entry) (here : place (definition-of h) (r .call .file) ≡ found-at.At i) (small : isn < isn-bound) (found-here : holder-of r h isn ≡ Held at e) where
   abbrev d : Definition
   d = definition-of h
@@ -79,22 +78,22 @@ module _ (capacity : ℕ) (r : Request) (h : Nucleus) (s : DefinitionShape (defi
   kept = imaged-at r (Held at e) isn h
 
   inside : at < h .state .count
-  inside = found-inside d (h .queue) (h .images) (h .state .count) (made .single) (r .call .file) isn at e found-here
+  inside = found-inside d (h .queue) (h .images) (h .state .count) (s .made .single) (r .call .file) isn at e found-here
 
   queue-kept : queue-of d (kept .queue) (kept .images) (kept .state .count)
       ≡ map (mark (key (r .call .file) isn) (get d (h .store) (key (r .call .file) isn))) (queue-of d (h .queue) (h .images) (h .state .count))
   queue-kept =
-      queue-first-change d s capacity (h .store) (h .queue) (h .images) (h .state .count) made (r .call .file) isn at e small found-here (record-at r h isn)
-      (record-of (file r h) (part r h) isn) (slot-is r h i isn here small (made .store-room))
+      queue-first-change d (s .shape) capacity (h .store) (h .queue) (h .images) (h .state .count) (s .made) (r .call .file) isn at e small found-here (record-at r h isn)
+      (record-of (file r h) (part r h) isn) (slot-is r h i isn here small (s .made .store-room))
 
-  made-kept : Made d capacity (h .store) (kept .queue) (kept .images) (kept .state .count)
-  made-kept = made-first-change d capacity (h .store) (h .queue) (h .images) (h .state .count) made at (record-at r h isn) (record-of (file r h) (part r h) isn) inside
+  sized-kept : Sized capacity lent d (h .store) (kept .queue) (kept .images) (kept .state .count)
+  sized-kept = sized-first-change capacity lent d (h .store) (h .queue) (h .images) (h .state .count) s at (record-at r h isn) (record-of (file r h) (part r h) isn) inside
 
   holding-kept : map holding (entries-of kept) ≡ map holding (entries-of h)
   holding-kept = first-change-same (h .queue) (h .state .count) at (record-at r h isn) inside
 
 -- ---- the nucleus `m` that a change of the target's slot to `x` leaves
-pub record Changed (capacity : ℕ) (r : Request) (n : Nucleus) (x : Slot) (m : Nucleus) : Type 0 where
+pub record Changed (capacity : ℕ) (lent : Lent) (r : Request) (n : Nucleus) (x : Slot) (m : Nucleus) : Type 0 where
   pub definition : definition-of m ≡ definition-of n
   pub clock : m .state .clock ≡ held r (target-isn r n) n .state .clock
   pub users : m .state .users ≡ held r (target-isn r n) n .state .users
@@ -105,10 +104,10 @@ pub record Changed (capacity : ℕ) (r : Request) (n : Nucleus) (x : Slot) (m : 
   pub queue : queue-of (definition-of n) (m .queue) (m .images) (m .state .count)
       ≡ map (mark (key (r .call .file) (target-isn r n)) (get (definition-of n) (n .store) (key (r .call .file) (target-isn r n))))
       (with-hold (r .call .user) (key (r .call .file) (target-isn r n)) (queue-of (definition-of n) (n .queue) (n .images) (n .state .count)))
-  pub made : Made (definition-of n) capacity (m .store) (m .queue) (m .images) (m .state .count)
+  pub sized : Sized capacity lent (definition-of n) (m .store) (m .queue) (m .images) (m .state .count)
   pub holds-same : map holding (entries-of m) ≡ map holding (entries-of (held r (target-isn r n) n))
 
-module _ (capacity : ℕ) (r : Request) (n : Nucleus) (s : DefinitionShape (definition-of n)) (t : Aim r n) (w : Holding capacity r n (target-isn r n)) where
+module _ (capacity : ℕ) (lent : Lent) (r : Request) (n : Nucleus) (t : Aim r n) (w : Holding capacity lent r n (target-isn r n)) where
   abbrev isn : ℕ
   isn = target-isn r n
 
@@ -125,28 +124,25 @@ module _ (capacity : ℕ) (r : Request) (n : Nucleus) (s : DefinitionShape (defi
   unfolding imaged
   image-is = ap (λ l. imaged-at r l isn h) (w .found)
 
-  shape-held : DefinitionShape (definition-of h)
-  shape-held = rw (w .definition) s
-
   here-held : place (definition-of h) (r .call .file) ≡ found-at.At (t .at)
   here-held = rw (w .definition) (t .found)
 
   room : store-size (definition-of n) ≤ length (n .store)
-  room = rw (w .definition, w .store) at (w .made .store-room)
+  room = rw (w .definition, w .store) at (w .sized .made .store-room)
 
   image-queue : queue-of (definition-of n) (image .queue) (image .images) (image .state .count)
       ≡ map (mark k (get (definition-of n) (n .store) k)) (with-hold (r .call .user) k (queue-of (definition-of n) (n .queue) (n .images) (n .state .count)))
   image-queue =
       let q : List MachineEntry = with-hold (r .call .user) k (queue-of (definition-of n) (n .queue) (n .images) (n .state .count)) in
       ap (λ x. queue-of x (image .queue) (image .images) (image .state .count)) (sym (w .definition))
-      ∙ queue-kept capacity r h shape-held (w .made) (t .at) isn (w .at) (w .entry) here-held (t .small) (w .found)
+      ∙ queue-kept capacity lent r h (w .sized) (t .at) isn (w .at) (w .entry) here-held (t .small) (w .found)
       ∙ ap (map (mark k (get (definition-of h) (h .store) k))) (w .queue)
       ∙ ap (λ x. map (mark k (get (definition-of h) x k)) q) (w .store) ∙ ap (λ x. map (mark k (get x (n .store) k)) q) (w .definition)
 
-  image-made : Made (definition-of n) capacity (n .store) (image .queue) (image .images) (image .state .count)
-  image-made =
-      subst₂ (λ x y. Made x capacity y (image .queue) (image .images) (image .state .count)) (w .definition) (w .store)
-      (made-kept capacity r h shape-held (w .made) (t .at) isn (w .at) (w .entry) here-held (t .small) (w .found))
+  image-sized : Sized capacity lent (definition-of n) (n .store) (image .queue) (image .images) (image .state .count)
+  image-sized =
+      subst₂ (λ x y. Sized capacity lent x y (image .queue) (image .images) (image .state .count)) (w .definition) (w .store)
+      (sized-kept capacity lent r h (w .sized) (t .at) isn (w .at) (w .entry) here-held (t .small) (w .found))
 
   -- the file's part with a slot is the store with it
   part-put : (x : Slot) → store-with (definition-of n) (found r n) (n .store) (put-in (file r n) (part r n) isn x) ≡ put (definition-of n) (n .store) k x
@@ -157,7 +153,7 @@ module _ (capacity : ℕ) (r : Request) (n : Nucleus) (s : DefinitionShape (defi
       let p : List ℕ = put-in (file r n) (part r n) isn x in
       ap (λ y. store-with y (place y (r .call .file)) (h .store) p) (w .definition) ∙ ap (λ y. store-with (definition-of n) (found r n) y p) (w .store) ∙ part-put x
 
-  changed-image : (x : Slot) → Changed capacity r n x (with-part-of r (put-in (file r n) (part r n) isn x) image)
+  changed-image : (x : Slot) → Changed capacity lent r n x (with-part-of r (put-in (file r n) (part r n) isn x) image)
   changed-image x = record {
     definition = w .definition;
     clock = refl;
@@ -167,17 +163,17 @@ module _ (capacity : ℕ) (r : Request) (n : Nucleus) (s : DefinitionShape (defi
     count = refl;
     store = image-put x;
     queue = image-queue;
-    made = rw (image-put x) (made-put (definition-of n) capacity (n .store) (image .queue) (image .images) (image .state .count) image-made s k x);
-    holds-same = holding-kept capacity r h shape-held (w .made) (t .at) isn (w .at) (w .entry) here-held (t .small) (w .found);
+    sized = rw (image-put x) (sized-put capacity lent (definition-of n) (n .store) (image .queue) (image .images) (image .state .count) image-sized k x);
+    holds-same = holding-kept capacity lent r h (w .sized) (t .at) isn (w .at) (w .entry) here-held (t .small) (w .found);
   }
 
-  changed-slot : (x : Slot) → Changed capacity r n x (with-part-of r (put-in (file r n) (part r n) isn x) (imaged r isn n))
-  changed-slot x = subst (λ m. Changed capacity r n x (with-part-of r (put-in (file r n) (part r n) isn x) m)) (sym image-is) (changed-image x)
+  changed-slot : (x : Slot) → Changed capacity lent r n x (with-part-of r (put-in (file r n) (part r n) isn x) (imaged r isn n))
+  changed-slot x = subst (λ m. Changed capacity lent r n x (with-part-of r (put-in (file r n) (part r n) isn x) m)) (sym image-is) (changed-image x)
 
-  pub written-changed : Changed capacity r n (some (new-record r n isn)) (written r isn n)
+  pub written-changed : Changed capacity lent r n (some (new-record r n isn)) (written r isn n)
   unfolding written
   written-changed = changed-slot (some (new-record r n isn))
 
-  pub erased-changed : Changed capacity r n none (erased r isn n)
+  pub erased-changed : Changed capacity lent r n none (erased r isn n)
   unfolding erased
   erased-changed = changed-slot none

@@ -1,9 +1,9 @@
 -- A1, E1, N1 and N2 that no row of the response table refuses: what the journal logs makes of the slot what the command makes of it.
 -- Assumes nothing.
-use Prim.Native.Nat.{ℕ, _+_, _-_, _≤_}
+use Prim.Native.Nat.{ℕ, _+_, _≤_}
 use native.Mathlib.Omega.{arith}
 use mathlib.Core.Path.{_≡_, refl, _∙_}
-use mathlib.Core.Bool.{Bool, true, false, not, _&&_}
+use mathlib.Core.Bool.{Bool, true, false, _&&_}
 use mathlib.Core.List.{List, [], _∷_, append-nil}
 use mathlib.Core.Option.{none, some}
 use lib.ListN.{length, length-append, drop-of-length-le}
@@ -16,7 +16,7 @@ use Rattle.definition.specs.Shape.{DefinitionShape}
 use Rattle.definition.specs.declared.Definition.{Definition}
 use Rattle.definition.specs.declared.Field.{Field}
 use Rattle.definition.specs.declared.File.{File}
-use Rattle.layout.specs.Layout.{field-length, record-length, slot-offset, store-size, place}
+use Rattle.layout.specs.Layout.{field-length, record-length, slot-offset, store-size}
 use Rattle.values.specs.Values.{null-value}
 use Rattle.values.specs.Laws.{null-length}
 use Rattle.fields.specs.Fields.{write-fields, nulls, null-record}
@@ -33,7 +33,7 @@ use Rattle.nucleus.specs.Commands.{one-of}
 use Rattle.nucleus.specs.Nucleus.{Nucleus, Request}
 use Rattle.nucleus.specs.Target.{file, part, record-at, target-isn}
 use Rattle.nucleus.specs.Rows.{presence-refused, new-record}
-use Rattle.nucleus.specs.declared.Command.the-variants.{L1, L4, A1, E1, N1, N2}
+use Rattle.nucleus.specs.declared.Command.the-variants.{L1, L4, A1, E1, N2}
 use Rattle.history.specs.Journal.{Update, replace, erase, add, apply}
 use Rattle.history.specs.Kept.{definition-of}
 use Rattle.history.specs.Accepted.{Accepted}

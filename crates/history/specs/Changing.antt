@@ -1,20 +1,12 @@
 -- What is kept where A1, E1, N1 or N2 changes a record.
 -- Assumes nothing.
-use Prim.Native.Nat.{ℕ, _-_, _≤_, _<_}
+use Prim.Native.Nat.{ℕ, _<_}
 use native.Mathlib.Omega.{arith}
 use mathlib.Core.Path.{_≡_, refl, sym, ap, subst, _∙_}
-use mathlib.Core.Bool.{Bool, true, false, not, _||_}
-use mathlib.Core.List.{List, [], _∷_, _++_, map}
-use mathlib.Core.Option.{none, some}
-use lib.Dec.{ltb}
-use lib.ListN.{length}
+use mathlib.Core.List.{List}
 use borrow.Author.Tests.{lt-ltb}
-use Rattle.lists.specs.Tests.{within-inside}
-use Rattle.lists.specs.Folds.{all, all-append}
-use Rattle.definition.specs.Table.{files-of}
-use Rattle.definition.specs.Shape.{DefinitionShape}
+use Rattle.lists.specs.Folds.{all-append}
 use Rattle.definition.specs.declared.Definition.{Definition}
-use Rattle.transactions.specs.Slots.{Slot}
 use Rattle.transactions.specs.Machine as machine
 use Rattle.transactions.specs.Theorems.{Invariant, kept-act}
 use Rattle.ground.specs.Keys.{isn-bound, key}
@@ -22,18 +14,18 @@ use Rattle.ground.specs.Store.{put}
 use Rattle.ground.specs.Ground.{ground}
 use Rattle.ground.specs.Queue.{queue-of, Made}
 use Rattle.nucleus.specs.Nucleus.{Nucleus, Request, entries-of}
-use Rattle.nucleus.specs.WellMade.{marks-made, data-made}
 use Rattle.nucleus.specs.Target.{target-isn}
 use Rattle.nucleus.specs.Effects.{held}
 use Rattle.nucleus.specs.declared.User.{User}
-use Rattle.history.specs.Journal.{Journal, Change, begun, changed}
+use Rattle.history.specs.Journal.{Journal, begun, changed}
 use Rattle.history.specs.Updates.{updates, logged}
-use Rattle.history.specs.Kept.{Kept, Sized, People, Told, Rested, definition-of, ground-of, seen, is-active, entry-active, change-sound}
+use Rattle.history.specs.Lent.{Lent}
+use Rattle.history.specs.Kept.{Kept, Sized, People, Told, definition-of, ground-of, seen, is-active, change-sound}
 use Rattle.history.specs.Accepted.{Accepted}
 use Rattle.history.specs.Logs.{log-change}
 use Rattle.history.specs.Ends.{laws-of}
 use Rattle.history.specs.Passing.{Passed}
-use Rattle.history.specs.HoldMoves.{His, his-entry, held-definition, held-store, held-same, his-held, seen-held, made-held}
+use Rattle.history.specs.HoldMoves.{his-entry, held-definition, held-store, held-same, his-held, seen-held}
 use Rattle.history.specs.Holding.{Serving, Holdable, kept-held, held-active}
 use Rattle.history.specs.Performing.{rested-held}
 use Rattle.history.specs.Changes.{Changes, Aim, aim}
@@ -41,7 +33,7 @@ use Rattle.history.specs.ChangesLogged.{update-of, slot-of}
 use Rattle.history.specs.ChangesAllowed.{file-update, no-other, room-left, machine-applied, change-allowed}
 use Rattle.history.specs.ChangesEffect.{Holding, Changed, users-same}
 
-module _ (lent : List ℕ) (n : Nucleus) (j : Journal) (r : Request) (p : Passed (r .capacity) lent n j) (s : Serving (r .call .user) n) (a : Accepted r n) (c : Changes r) where
+module _ (lent : Lent) (n : Nucleus) (j : Journal) (r : Request) (p : Passed (r .capacity) lent n j) (s : Serving (r .call .user) n) (a : Accepted r n) (c : Changes r) where
   abbrev capacity : ℕ
   capacity = r .capacity
 
@@ -73,7 +65,10 @@ module _ (lent : List ℕ) (n : Nucleus) (j : Journal) (r : Request) (p : Passed
   small-user : u < 256
   small-user = omega (arith, s .most)
 
-  pub holding-here : Holding capacity r n isn
+  abbrev before : Kept capacity lent (held r isn n) (begun u j)
+  before = kept-held capacity lent n j k r isn s holdable
+
+  pub holding-here : Holding capacity lent r n isn
   holding-here =
       let e = his-entry u _ (his-held n capacity made (k .sized .shape) r isn (t .small) (t .known) small-user (holdable .mine) (holdable .room)) in
       record {
@@ -83,18 +78,15 @@ module _ (lent : List ℕ) (n : Nucleus) (j : Journal) (r : Request) (p : Passed
         definition = held-definition r isn n;
         store = held-store r isn n;
         queue = seen-held n capacity made (k .sized .shape) r isn (t .small) (t .known) small-user (holdable .mine) (holdable .room);
-        made = made-held n capacity made (k .sized .shape) r isn (t .small) (t .known) small-user (holdable .mine) (holdable .room);
+        sized = before .sized;
       }
-
-  abbrev before : Kept capacity lent (held r isn n) (begun u j)
-  before = kept-held capacity lent n j k r isn s holdable
 
   -- ---- the argument of requirement 3
   abbrev logged-now : Journal
   logged-now = changed (r .call) isn (update-of r c) (begun u j)
 
   -- ---- the nucleus that it leaves
-  module _ (m : Nucleus) (ch : Changed capacity r n (slot-of r n c) m) where
+  module _ (m : Nucleus) (ch : Changed capacity lent r n (slot-of r n c) m) where
     abbrev us : List User
     us = held r isn n .state .users
 
@@ -109,14 +101,11 @@ module _ (lent : List ℕ) (n : Nucleus) (j : Journal) (r : Request) (p : Passed
     invariant-here : Invariant (ground-of lent n) (record { store = m .store; queue = queue-of d (m .queue) (m .images) (m .state .count) }) (logged (logged-now .changes))
     unfolding begun changed
     invariant-here =
-        rw (moved, log-change d lent u (r .call .file) isn (update-of r c) (j .changes)) at
+        rw (moved, log-change d (lent .store) u (r .call .file) isn (update-of r c) (j .changes)) at
         (kept-act (ground-of lent n) (laws-of capacity lent n (k .sized)) (seen lent n) (logged (j .changes)) (k .invariant) (machine.change u key-at (file-update r c))
         (change-allowed r n (k .sized .shape) (k .sized .valid) capacity made t a c lent))
 
     -- ---- and all else
-    sized-here : Sized capacity d (m .store) (m .queue) (m .images) (m .state .count)
-    sized-here = record { shape = k .sized .shape; valid = k .sized .valid; capacity-sound = k .sized .capacity-sound; made = ch .made }
-
     people-here : People (held r isn n .state .clock) us (entries-of m)
     people-here = record {
       user-count = before .people .user-count;
@@ -136,12 +125,12 @@ module _ (lent : List ℕ) (n : Nucleus) (j : Journal) (r : Request) (p : Passed
 
     pub kept-changed : Kept capacity lent m logged-now
     kept-changed = record {
-      sized = subst (λ x. Sized capacity x (m .store) (m .queue) (m .images) (m .state .count)) (sym (ch .definition)) sized-here;
+      sized = subst (λ x. Sized capacity lent x (m .store) (m .queue) (m .images) (m .state .count)) (sym (ch .definition)) (ch .sized);
       people = rw (ch .clock, ch .users) people-here;
       marks-sound = rw (ch .marks, ch .definition, held-same r isn n (λ x. x .state .«last_assigned») refl) (k .marks-sound);
       data-sound = rw (ch .data-kept) (before .data-sound);
       told = rw (ch .clock, ch .users) told-here;
-      invariant = subst (λ x. Invariant (ground x (updates x) lent) (record { store = m .store; queue = queue-of x (m .queue) (m .images) (m .state .count) }) (logged (logged-now .changes))) (sym (ch .definition)) invariant-here;
+      invariant = subst (λ x. Invariant (ground x (updates x) (lent .store)) (record { store = m .store; queue = queue-of x (m .queue) (m .images) (m .state .count) }) (logged (logged-now .changes))) (sym (ch .definition)) invariant-here;
     }
 
     pub passed-changed : Passed capacity lent m logged-now

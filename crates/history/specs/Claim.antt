@@ -6,11 +6,11 @@
 use Prim.Native.Nat.{ℕ, _<_}
 use mathlib.Core.Path.{_≡_}
 use mathlib.Core.Logic.{_≢_}
-use mathlib.Core.Bool.{Bool, true}
+use mathlib.Core.Bool.{true}
 use mathlib.Core.List.{List}
 use mathlib.Core.Option.{some}
 use lib.Dec.{eqb}
-use Rattle.lists.specs.Folds.{all, distinct, Each}
+use Rattle.lists.specs.Folds.{all, distinct}
 use Rattle.definition.specs.Table.{field-at, field-count}
 use Rattle.definition.specs.declared.FieldOption.the-variants.{Unique}
 use Rattle.definition.specs.declared.File.{File}

@@ -1,57 +1,43 @@
 -- What is kept where a transaction ends: all entries of a user go, his changes stand or are struck, and he is in no transaction.
 -- Assumes nothing.
 use Prim.Native.Nat.{ℕ, _-_, _≤_}
-use native.Mathlib.Omega.{arith}
 use mathlib.Core.Path.{_≡_, refl, sym, ap, _∙_}
-use mathlib.Core.Bool.{Bool, true, false, not, _&&_, _||_}
-use mathlib.Core.List.{List, [], _∷_, map}
+use mathlib.Core.Bool.{true, false, not, _&&_}
+use mathlib.Core.List.{List, map}
 use mathlib.Core.Option.{none}
-use lib.Dec.{eqb, ltb}
+use lib.Dec.{eqb}
 use lib.ListN.{length, set, length-set}
 use borrow.Author.Tests.{not-true}
-use Rattle.lists.specs.Tests.{or-true, Outcome, holds, fails, outcome, and-left, and-right}
-use Rattle.lists.specs.Folds.{all}
-use Rattle.lists.specs.Sift.{keep, sift}
-use Rattle.definition.specs.Table.{files-of}
+use Rattle.lists.specs.Tests.{and-left, and-right}
+use Rattle.lists.specs.Sift.{sift}
 use Rattle.definition.specs.declared.Definition.{Definition}
 use Rattle.images.specs.Images.{stays}
-use Rattle.images.specs.Laws.{entries-remove}
-use Rattle.images.specs.declared.Removal.{Removal}
 use Rattle.images.specs.declared.Removal.the-variants.{All}
 use Rattle.entries.specs.declared.Entry.{Entry}
 use Rattle.transactions.specs.Machine.{Laws, Machine, end, back-out, allowed}
-use Rattle.transactions.specs.Theorems.{Invariant, kept-act}
-use Rattle.ground.specs.Keys.{isn-bound}
+use Rattle.transactions.specs.Theorems.{kept-act}
+use Rattle.ground.specs.Lists.{all-over}
 use Rattle.ground.specs.Ground.{laws}
-use Rattle.ground.specs.Queue.{Made}
-use Rattle.ground.specs.Entries.{made-fits}
-use Rattle.ground.specs.Kept.{made-remove, made-restore}
 use Rattle.ground.specs.Acts.{act-end, act-back-out}
-use Rattle.nucleus.specs.Users.{ended, with-transaction}
-use Rattle.nucleus.specs.Nucleus.{Nucleus, max-users, user-of, with-user, with-state, change-user, entries-of}
-use Rattle.nucleus.specs.Clock.{width-of, removed, restored, backed-out}
+use Rattle.nucleus.specs.Users.{ended}
+use Rattle.nucleus.specs.Nucleus.{Nucleus, max-users, user-of, with-user, with-state, entries-of}
+use Rattle.nucleus.specs.Clock.{removed, restored, backed-out}
 use Rattle.nucleus.specs.declared.User.{User}
+use Rattle.history.specs.Lists.{all-implies, all-set, all-left}
 use Rattle.history.specs.Journal.{Journal, Change, member, strikes, commits, struck}
 use Rattle.history.specs.Journal as journal
 use Rattle.history.specs.Updates.{updates, logged}
-use Rattle.history.specs.Kept.{Kept, Sized, People, Told, definition-of, ground-of, seen, user-sound, is-active, entry-active, change-sound, member-of, one-of-users}
+use Rattle.history.specs.Lent.{Lent}
+use Rattle.history.specs.Kept.{Kept, Sized, People, Told, definition-of, ground-of, seen, user-sound, entry-active, change-sound, member-of}
+use Rattle.history.specs.Sizes.{sized-removed, sized-restored}
 use Rattle.history.specs.UpdateLaws.{update-laws}
-use Rattle.history.specs.People.{all-set, sound-idle, active-other, members-set, member-is}
+use Rattle.history.specs.People.{change-isn, change-active, sound-change, sound-idle, active-other, members-set, member-is}
+use Rattle.history.specs.QueueMoves.{entries-removed}
 use Rattle.history.specs.Logs.{log-end, log-back-out}
 
--- ---- what is left of a list passes a test that those that stay pass
-module _ {A : Type 0} (p r q : A → Bool) (f : (x : A) → p x ≡ true → r x ≡ true → q x ≡ true) where
-  pub all-left : (xs : List A) → all p xs ≡ true → all q (sift r xs) ≡ true
-  all-left [] h = refl
-  all-left (x ∷ xs) h = go (outcome (r x)) (all-left xs (and-right (p x) (all p xs) h))
-    where
-      go : Outcome (r x) → all q (sift r xs) ≡ true → all q (sift r (x ∷ xs)) ≡ true
-      go (holds t) i = rw (t, f x (and-left (p x) (all p xs) h) t) i
-      go (fails t) i = rw t i
-
 -- ---- laws of the machine's ground, of a sized nucleus
-pub laws-of : (capacity : ℕ) (lent : List ℕ) (n : Nucleus) → Sized capacity (definition-of n) (n .store) (n .queue) (n .images) (n .state .count) → Laws (ground-of lent n)
-laws-of capacity lent n s = laws (definition-of n) (s .shape) (s .valid) (updates (definition-of n)) (update-laws (definition-of n) (s .shape) (s .valid)) lent
+pub laws-of : (capacity : ℕ) (lent : Lent) (n : Nucleus) → Sized capacity lent (definition-of n) (n .store) (n .queue) (n .images) (n .state .count) → Laws (ground-of lent n)
+laws-of capacity lent n s = laws (definition-of n) (s .shape) (s .valid) (updates (definition-of n)) (update-laws (definition-of n) (s .shape) (s .valid)) (lent .store)
 
 -- ---- the users, where one of them ends his transaction
 module _ (clock : ℕ) (us : List User) (u : ℕ) (least : 1 ≤ u) (most : u ≤ max-users) (x : User) (full : length us ≡ max-users) (idle : x .active ≡ false) where
@@ -66,16 +52,16 @@ module _ (clock : ℕ) (us : List User) (u : ℕ) (least : 1 ≤ u) (most : u �
         all-left (entry-active us) (stays (All u)) (entry-active us′) (λ e a s. active-other us full u least most x (e .user) (not-true _ s) ∙ a) es (p .entries-active);
   }
 
-  -- a change that is not his, or not open any more
+  -- a change that is not his, or not open
   other-change : (c : Change) → (c .uncommitted && eqb (c .user) u) ≡ false → change-sound us c ≡ true → change-sound us′ c ≡ true
-  other-change c n h = go (outcome (c .uncommitted))
-    where
-      small : ltb (c .isn) isn-bound ≡ true
-      small = and-left (ltb (c .isn) isn-bound) (not (c .uncommitted) || is-active us (c .user)) h
+  other-change c n h = sound-change us′ c (change-isn us c h) (λ o. active-other us full u least most x (c .user) (rw o at n) ∙ change-active us c h o)
 
-      go : Outcome (c .uncommitted) → change-sound us′ c ≡ true
-      go (holds t) = rw (small, t) (active-other us full u least most x (c .user) (rw t at n) ∙ rw (small, t) at h)
-      go (fails t) = rw (small, t)
+  -- a change of his that is open no more
+  committed : (c : Change) → change-sound us c ≡ true → change-sound us′ (commits u c) ≡ true
+  committed c h =
+      sound-change us′ (commits u c) (change-isn us c h)
+      (λ o. active-other us full u least most x (c .user) (not-true (eqb (c .user) u) (and-right (c .uncommitted) (not (eqb (c .user) u)) o))
+      ∙ change-active us c h (and-left (c .uncommitted) (not (eqb (c .user) u)) o))
 
   module _ (j : Journal) (t : Told clock us j) (same : member-of x ≡ record { limit = member j u .limit; start = none }) where
     told-members : set (j .members) (u - 1) (record { limit = member j u .limit; start = none }) ≡ map member-of us′
@@ -94,52 +80,15 @@ module _ (clock : ℕ) (us : List User) (u : ℕ) (least : 1 ≤ u) (most : u �
     told-ended = record {
       same-clock = t .same-clock;
       same-members = told-members;
-      changes-sound = committed (j .changes) (t .changes-sound);
+      changes-sound =
+          all-over (commits u) (change-sound us′) (j .changes)
+          ∙ all-implies (change-sound us) (λ c. change-sound us′ (commits u c)) committed (j .changes) (t .changes-sound);
     }
-      where
-        closes : (a b : Bool) → ((a && not b) && b) ≡ false
-        closes true true = refl
-        closes true false = refl
-        closes false true = refl
-        closes false false = refl
-
-        commit-sound : (c : Change) → change-sound us c ≡ true → change-sound us (commits u c) ≡ true
-        commit-sound c h = go (outcome (c .uncommitted))
-          where
-            small : ltb (c .isn) isn-bound ≡ true
-            small = and-left (ltb (c .isn) isn-bound) (not (c .uncommitted) || is-active us (c .user)) h
-
-            go : Outcome (c .uncommitted) → change-sound us (commits u c) ≡ true
-            go (holds o) = let a : is-active us (c .user) ≡ true = rw (small, o) at h in rw (small, a) (or-true (not (c .uncommitted && not (eqb (c .user) u))))
-            go (fails o) = rw (small, o)
-
-        committed : (cs : List Change) → all (change-sound us) cs ≡ true → all (change-sound us′) (map (commits u) cs) ≡ true
-        committed [] h = refl
-        committed (c ∷ cs) h =
-            rw (
-              other-change (commits u c) (closes (c .uncommitted) (eqb (c .user) u)) (commit-sound c (and-left (change-sound us c) (all (change-sound us) cs) h)),
-              committed cs (and-right (change-sound us c) (all (change-sound us) cs) h),
-            )
 
 -- ---- of the nucleus
-module _ (capacity : ℕ) (lent : List ℕ) (n : Nucleus) (j : Journal) (k : Kept capacity lent n j) (u : ℕ) (least : 1 ≤ u) (most : u ≤ max-users) where
+module _ (capacity : ℕ) (lent : Lent) (n : Nucleus) (j : Journal) (k : Kept capacity lent n j) (u : ℕ) (least : 1 ≤ u) (most : u ≤ max-users) where
   abbrev d : Definition
   d = definition-of n
-
-  entries-left : entries-of (removed (All u) n) ≡ sift (stays (All u)) (entries-of n)
-  unfolding removed
-  entries-left =
-      entries-remove (n .queue) (n .images) (n .state .count) (width-of n) (All u) (made-fits d capacity (n .store) (n .queue) (n .images) (n .state .count) (k .sized .made))
-
-  -- the table and what was lent, with what is left of the queue
-  sized-left : (store : List ℕ) → Made d capacity store (n .queue) (n .images) (n .state .count) → Sized capacity d store (removed (All u) n .queue) (removed (All u) n .images) (removed (All u) n .state .count)
-  unfolding removed
-  sized-left store m = record {
-    shape = k .sized .shape;
-    valid = k .sized .valid;
-    capacity-sound = k .sized .capacity-sound;
-    made = made-remove d capacity store (n .queue) (n .images) (n .state .count) m (All u);
-  }
 
   end-allowed : (m : Machine (ground-of lent n)) → allowed (ground-of lent n) (end u) m ≡ true
   unfolding allowed
@@ -154,13 +103,13 @@ module _ (capacity : ℕ) (lent : List ℕ) (n : Nucleus) (j : Journal) (k : Kep
     pub kept-ended : Kept capacity lent (with-state (with-user u x (removed (All u) n .state)) (removed (All u) n)) (journal.ended u j)
     unfolding removed journal.ended
     kept-ended = record {
-      sized = sized-left (n .store) (k .sized .made);
-      people = rw entries-left (people-ended (n .state .clock) (n .state .users) u least most x (k .people .user-count) idle (entries-of n) (k .people));
+      sized = sized-removed capacity lent d (n .store) (n .queue) (n .images) (n .state .count) (k .sized) (All u);
+      people = rw (entries-removed n capacity (k .sized .made) (All u)) (people-ended (n .state .clock) (n .state .users) u least most x (k .people .user-count) idle (entries-of n) (k .people));
       marks-sound = k .marks-sound;
       data-sound = k .data-sound;
       told = told-ended (n .state .clock) (n .state .users) u least most x (k .people .user-count) idle j (k .told) same;
       invariant =
-          rw (act-end d (k .sized .shape) (updates d) lent capacity (n .store) (n .queue) (n .images) (n .state .count) (k .sized .made) u, log-end d lent u (j .changes)) at
+          rw (act-end d (k .sized .shape) (updates d) (lent .store) capacity (n .store) (n .queue) (n .images) (n .state .count) (k .sized .made) u, log-end d (lent .store) u (j .changes)) at
           (kept-act (ground-of lent n) (laws-of capacity lent n (k .sized)) (seen lent n) (logged (j .changes)) (k .invariant) (end u) (end-allowed (seen lent n)));
     }
 
@@ -168,13 +117,13 @@ module _ (capacity : ℕ) (lent : List ℕ) (n : Nucleus) (j : Journal) (k : Kep
     pub kept-out : Kept capacity lent (with-state (with-user u x (removed (All u) (restored u n) .state)) (removed (All u) (restored u n))) (struck u j)
     unfolding removed struck
     kept-out = record {
-      sized = sized-left _ (made-restore d capacity (n .store) (n .queue) (n .images) (n .state .count) (k .sized .made) (k .sized .shape) u);
-      people = rw entries-left (people-ended (n .state .clock) (n .state .users) u least most x (k .people .user-count) idle (entries-of n) (k .people));
+      sized = sized-removed capacity lent d _ (n .queue) (n .images) (n .state .count) (sized-restored capacity lent d (n .store) (n .queue) (n .images) (n .state .count) (k .sized) u) (All u);
+      people = rw (entries-removed n capacity (k .sized .made) (All u)) (people-ended (n .state .clock) (n .state .users) u least most x (k .people .user-count) idle (entries-of n) (k .people));
       marks-sound = k .marks-sound;
       data-sound = k .data-sound;
       told = told-struck (n .state .clock) (n .state .users) u least most x (k .people .user-count) idle j (k .told) same;
       invariant =
-          rw (act-back-out d (k .sized .shape) (updates d) lent capacity (n .store) (n .queue) (n .images) (n .state .count) (k .sized .made) u, log-back-out d lent u (j .changes)) at
+          rw (act-back-out d (k .sized .shape) (updates d) (lent .store) capacity (n .store) (n .queue) (n .images) (n .state .count) (k .sized .made) u, log-back-out d (lent .store) u (j .changes)) at
           (kept-act (ground-of lent n) (laws-of capacity lent n (k .sized)) (seen lent n) (logged (j .changes)) (k .invariant) (back-out u) (back-out-allowed (seen lent n)));
     }
 

@@ -1,12 +1,11 @@
 -- The journal is made of calls, responses and ISNs alone; and an accepted N1 is in its records.
 -- Assumes nothing.
 use Prim.Native.Nat.{ℕ}
-use mathlib.Core.Path.{_≡_, refl, _∙_}
-use mathlib.Core.Bool.{Bool, true, false, _&&_}
+use mathlib.Core.Path.{_≡_, refl}
+use mathlib.Core.Bool.{true}
 use mathlib.Core.List.{List, [], _∷_, _++_}
 use mathlib.Core.Option.{Option, none, some}
-use lib.Dec.{eqb}
-use Rattle.lists.specs.Tests.{cond, eqb-self}
+use Rattle.lists.specs.Tests.{eqb-self}
 use Rattle.definition.specs.Table.{fields-of}
 use Rattle.definition.specs.declared.Definition.{Definition}
 use Rattle.layout.specs.Layout.{place}

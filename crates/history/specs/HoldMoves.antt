@@ -1,61 +1,37 @@
 -- A hold in a nucleus as the abstract machine's: a new entry at the end of the queue, unless the caller has one.
 -- Assumes nothing.
-use Prim.Native.Nat.{ℕ, _+_, _<_}
+use Prim.Native.Nat.{ℕ, _<_}
 use native.Mathlib.Omega.{arith}
 use mathlib.Core.Path.{_≡_, refl, sym, ap, _∙_}
 use mathlib.Core.Bool.{Bool, true, false, not, cond}
-use mathlib.Core.List.{List, [], _∷_, _++_}
+use mathlib.Core.List.{[], _∷_, _++_}
 use lib.Dec.{eqb}
 use lib.ListN.{length}
 use borrow.Author.Tests.{eqb-true, not-false}
-use Rattle.lists.specs.Tests.{Outcome, holds, fails, outcome, not-both, or-left, or-right, within-most, eqb-self}
-use Rattle.lists.specs.Folds.{any, all, distinct, all-append}
-use Rattle.definition.specs.Table.{file-at}
+use Rattle.lists.specs.Tests.{Outcome, holds, fails, outcome, not-both, eqb-self}
 use Rattle.definition.specs.Shape.{DefinitionShape, file-shape-at}
 use Rattle.definition.specs.declared.Definition.{Definition}
-use Rattle.layout.specs.Layout.{place}
-use Rattle.layout.specs.Laws.{place-found}
-use Rattle.layout.specs.declared.Found.{Found}
-use Rattle.layout.specs.declared.Found.the-variants as found-at
-use Rattle.entries.specs.Entries.{is-of}
-use Rattle.repeats.specs.Repeats.{alike, repeated}
-use Rattle.queue.specs.Queue.{seek, holder}
-use Rattle.lists.specs.Distinct.{distinct-last}
-use Rattle.entries.specs.Laws.{Shape, length-entries}
-use Rattle.queue.specs.Laws.{free-none, entries-append, length-append-entry}
+use Rattle.queue.specs.Queue.{holder}
+use Rattle.entries.specs.Laws.{Shape}
+use Rattle.queue.specs.Laws.{entries-append}
 use Rattle.entries.specs.declared.Entry.{Entry}
 use Rattle.queue.specs.declared.Lookup.{Lookup}
 use Rattle.queue.specs.declared.Lookup.the-variants.{Held, Free}
 use Rattle.transactions.specs.Machine as machine
-use Rattle.ground.specs.Keys.{isn-bound, key, known, known-at, known-found, file-of-key, isn-of-key}
-use Rattle.ground.specs.Queue.{entry-known}
+use Rattle.ground.specs.Keys.{isn-bound, key, known, known-found, file-of-key}
 use Rattle.ground.specs.Reading.{found-passes, other-holds}
+use Rattle.ground.specs.Acts.{holder-new}
 use Rattle.ground.specs.Entries.{queue-hold, queue-held}
 use Rattle.nucleus.specs.Users.{started}
 use Rattle.nucleus.specs.Nucleus.{Nucleus, Request, entries-of, change-user}
-use Rattle.nucleus.specs.WellMade.{within-file}
 use Rattle.nucleus.specs.Target.{held-by, held-by-other, holder-of}
 use Rattle.nucleus.specs.Effects.{entry-for, with-entry, held}
+use Rattle.history.specs.Lent.{Lent}
 use Rattle.history.specs.Kept.{definition-of, ground-of, seen}
 use Rattle.history.specs.QueueMoves.{queue-seen, MadeIn}
 
--- ---- an ISN of its file, and its key
+-- ---- the number of a file whose ISN is known is a byte
 module _ (d : Definition) (shape : DefinitionShape d) (file isn : ℕ) where
-  pub within-small : within-file d (place d file) isn ≡ true → isn < isn-bound
-  within-small h = go (place d file) refl h
-    where
-      go : (r : Found) → place d file ≡ r → within-file d r isn ≡ true → isn < isn-bound
-      go (found-at.At i) e t = omega (arith, within-most 1 (file-at d i .«max_isn») isn t, file-shape-at d shape i (omega (arith, place-found d shape file i e .0)) .small-max-isn)
-      go found-at.Nowhere e t = not-both false t refl
-
-  pub within-known : within-file d (place d file) isn ≡ true → known d (key file isn) ≡ true
-  unfolding known
-  within-known h = rw (file-of-key file isn (within-small h), isn-of-key file isn (within-small h)) (go (place d file) h)
-    where
-      go : (r : Found) → within-file d r isn ≡ true → known-at d r isn ≡ true
-      go (found-at.At i) t = t
-      go found-at.Nowhere t = t
-
   pub known-file-small : isn < isn-bound → known d (key file isn) ≡ true → file < 256
   known-file-small small inside =
       let home = known-found d shape (key file isn) inside in
@@ -81,18 +57,6 @@ nobodys u Free h o = refl
 passes-other : (u : ℕ) (l : Lookup) → found-passes (λ v. not (eqb v u)) l ≡ held-by-other u l
 passes-other u (Held i e) = refl
 passes-other u Free = refl
-
--- a new entry is the one that is found
-module _ (file isn : ℕ) (e : Entry) (matches : is-of file isn e ≡ true) where
-  seek-last : (es : List Entry) (i : ℕ) → any (is-of file isn) es ≡ false → seek file isn (es ++ e ∷ []) i ≡ Held (i + length es) e
-  seek-last [] i h = let z : i + 0 ≡ i = omega arith in rw (matches, z)
-  seek-last (x ∷ es) i h =
-      let z : i + 1 + length es ≡ i + length (x ∷ es) = omega arith in
-      rw (or-left (is-of file isn x) (any (is-of file isn) es) h, ← z) (seek-last es (i + 1) (or-right (is-of file isn x) (any (is-of file isn) es) h))
-
-  pub holder-last : (es : List Entry) → holder es file isn ≡ Free → holder (es ++ e ∷ []) file isn ≡ Held (length es) e
-  unfolding holder
-  holder-last es free = seek-last es 0 (free-none file isn es free) ∙ ap (λ i. Held i e) (omega arith)
 
 -- ---- the two ways of a hold
 module _ (r : Request) (isn : ℕ) (n : Nucleus) where
@@ -129,12 +93,6 @@ module _ (r : Request) (isn : ℕ) (n : Nucleus) where
   pub held-store : held r isn n .store ≡ n .store
   held-store = held-same (λ m. m .store) refl
 
-  pub held-images : held r isn n .images ≡ n .images
-  held-images = held-same (λ m. m .images) refl
-
-  pub held-queue-length : length (held r isn n .queue) ≡ length (n .queue)
-  held-queue-length = held-same (λ m. length (m .queue)) (length-append-entry (n .queue) (n .state .count) (entry-for r isn n))
-
 -- ---- of a well made nucleus
 module _ (n : Nucleus) (capacity : ℕ) (made : MadeIn capacity n) where
   -- the machine's `held-by-other` is the nucleus's
@@ -142,7 +100,7 @@ module _ (n : Nucleus) (capacity : ℕ) (made : MadeIn capacity n) where
   other-seen u file isn small =
       other-holds (definition-of n) (n .queue) (n .images) (n .state .count) (made .single) file isn small u ∙ passes-other u (holder (entries-of n) file isn)
 
-  pub hold-allowed : (lent : List ℕ) (u file isn : ℕ) → isn < isn-bound → held-by-other u (holder (entries-of n) file isn) ≡ false
+  pub hold-allowed : (lent : Lent) (u file isn : ℕ) → isn < isn-bound → held-by-other u (holder (entries-of n) file isn) ≡ false
       → machine.allowed (ground-of lent n) (machine.hold u (key file isn)) (seen lent n) ≡ true
   unfolding machine.allowed
   hold-allowed lent u file isn small mine = rw (other-seen u file isn small ∙ mine)
@@ -160,11 +118,8 @@ module _ (n : Nucleus) (capacity : ℕ) (made : MadeIn capacity n) where
     abbrev new : Entry
     new = entry-for r isn n
 
-    new-shape : Shape new
+    pub new-shape : Shape new
     new-shape = record { user = small-user; file = known-file-small (definition-of n) shape (r .call .file) isn small inside; isn = small }
-
-    new-matches : is-of (r .call .file) isn new ≡ true
-    new-matches = rw (eqb-self (r .call .file)) (eqb-self isn)
 
     -- where he has no entry yet
     module _ (none : held-by u (holder-of r n isn) ≡ false) where
@@ -174,32 +129,15 @@ module _ (n : Nucleus) (capacity : ℕ) (made : MadeIn capacity n) where
       place-left : n .state .count < length (n .queue)
       place-left = omega (arith, room none, made .queue-room)
 
-      entries-anew : entries-of (held-anew r isn n) ≡ entries-of n ++ new ∷ []
+      pub entries-anew : entries-of (held-anew r isn n) ≡ entries-of n ++ new ∷ []
       entries-anew = entries-append (n .queue) (n .state .count) new new-shape place-left
 
-      seen-anew : queue-seen (held-anew r isn n) ≡ machine.with-hold u k (queue-seen n)
+      pub seen-anew : queue-seen (held-anew r isn n) ≡ machine.with-hold u k (queue-seen n)
       seen-anew = queue-hold (definition-of n) (n .queue) (n .images) (n .state .count) new new-shape refl place-left free
 
-      single-anew : repeated (entries-of n ++ new ∷ []) ≡ false
-      unfolding repeated
-      single-anew =
-          rw (distinct-last alike (entries-of n) new, not-false (distinct alike (entries-of n)) (made .single), free-none (r .call .file) isn (entries-of n) free)
-
-      made-anew : MadeIn capacity (held-anew r isn n)
-      made-anew = record {
-        store-room = made .store-room;
-        queue-room = omega (arith, made .queue-room, length-append-entry (n .queue) (n .state .count) new);
-        image-room = made .image-room;
-        most = omega (arith, room none);
-        each-known = rw (entries-anew, all-append (entry-known (definition-of n)) (entries-of n) (new ∷ []), made .each-known, inside);
-        single = rw entries-anew single-anew;
-      }
-
       -- the entry is the last one
-      pub found-anew : holder-of r (held r isn n) isn ≡ Held (n .state .count) new
-      found-anew =
-          let long : length (entries-of n) ≡ n .state .count = omega (arith, length-entries (n .queue) (n .state .count), place-left) in
-          rw (held-new r isn n none, entries-anew, holder-last (r .call .file) isn new new-matches (entries-of n) free, long)
+      found-anew : holder-of r (held r isn n) isn ≡ Held (n .state .count) new
+      found-anew = rw (held-new r isn n none) (holder-new (n .queue) (n .state .count) new new-shape place-left free)
 
     pub seen-held : queue-seen (held r isn n) ≡ machine.with-hold u k (queue-seen n)
     seen-held = go (outcome (held-by u (holder-of r n isn)))
@@ -209,28 +147,6 @@ module _ (n : Nucleus) (capacity : ℕ) (made : MadeIn capacity n) where
             let e = his-entry u (holder-of r n isn) h in
             rw (held-his r isn n h) (sym (queue-held (definition-of n) (n .queue) (n .images) (n .state .count) u (r .call .file) isn (e .at) (e .entry) small (e .found)))
         go (fails h) = rw (held-new r isn n h) (seen-anew h)
-
-    pub made-held : MadeIn capacity (held r isn n)
-    made-held = go (outcome (held-by u (holder-of r n isn)))
-      where
-        go : Outcome (held-by u (holder-of r n isn)) → MadeIn capacity (held r isn n)
-        go (holds h) = rw (held-his r isn n h) made
-        go (fails h) = rw (held-new r isn n h) (made-anew h)
-
-    pub entries-held : entries-of (held r isn n) ≡ cond (held-by u (holder-of r n isn)) (entries-of n) (entries-of n ++ new ∷ [])
-    entries-held = go (outcome (held-by u (holder-of r n isn)))
-      where
-        go : Outcome (held-by u (holder-of r n isn)) → entries-of (held r isn n) ≡ cond (held-by u (holder-of r n isn)) (entries-of n) (entries-of n ++ new ∷ [])
-        go (holds h) = rw (held-his r isn n h, h)
-        go (fails h) = rw (held-new r isn n h, h) (entries-anew h)
-
-    -- a test that all entries pass, and his new one
-    pub all-held : (p : Entry → Bool) → all p (entries-of n) ≡ true → p new ≡ true → all p (entries-of (held r isn n)) ≡ true
-    all-held p h t = rw entries-held (go (held-by u (holder-of r n isn)))
-      where
-        go : (b : Bool) → all p (cond b (entries-of n) (entries-of n ++ new ∷ [])) ≡ true
-        go true = h
-        go false = rw (all-append p (entries-of n) (new ∷ []), h, t)
 
     -- the entry that is found then is his
     pub his-held : held-by u (holder-of r (held r isn n) isn) ≡ true

@@ -2,19 +2,14 @@
 -- Assumes nothing.
 use Prim.Native.Nat.{ℕ, _-_, _≤_, _<_}
 use native.Mathlib.Omega.{arith}
-use mathlib.Core.Path.{_≡_, refl, sym, ap, _∙_}
-use mathlib.Core.Bool.{Bool, true, false}
+use mathlib.Core.Path.{_≡_, sym, ap, _∙_}
+use mathlib.Core.Bool.{true, false}
 use mathlib.Core.List.{List, [], _∷_}
-use mathlib.Core.Option.{none, some}
-use lib.ListN.{length, set}
+use lib.ListN.{set}
 use Rattle.lists.specs.Tests.{within, Outcome, holds, fails, outcome, within-inside, and-right}
-use Rattle.lists.specs.Folds.{all, all-at}
-use Rattle.definition.specs.declared.Definition.{Definition}
-use Rattle.queue.specs.Queue.{holder}
+use Rattle.lists.specs.Folds.{all-at, all-append}
 use Rattle.entries.specs.Laws.{no-entry}
-use Rattle.queue.specs.Laws.{Found, held-found}
-use Rattle.entries.specs.declared.Entry.{Entry}
-use Rattle.queue.specs.declared.Lookup.{Lookup}
+use Rattle.queue.specs.Laws.{held-found}
 use Rattle.transactions.specs.Machine.{hold, with-hold, act, log}
 use Rattle.transactions.specs.Theorems.{Invariant, kept-act}
 use Rattle.ground.specs.Keys.{isn-bound, key, known}
@@ -25,13 +20,15 @@ use Rattle.nucleus.specs.Effects.{held, entry-for}
 use Rattle.nucleus.specs.declared.User.{User}
 use Rattle.history.specs.Journal.{Journal, member, with-member, start-at, begun}
 use Rattle.history.specs.Updates.{logged}
-use Rattle.history.specs.Kept.{Kept, People, definition-of, ground-of, seen, user-sound, is-active, entry-active, member-of, start-of, one-of-users}
-use Rattle.history.specs.People.{ActiveSound, active-sound, sound-active, active-own, member-is}
+use Rattle.history.specs.Lent.{Lent}
+use Rattle.history.specs.Kept.{Kept, People, definition-of, ground-of, seen, user-sound, is-active, entry-active, member-of, start-of}
+use Rattle.history.specs.People.{sound-active, active-own, member-is}
 use Rattle.history.specs.Keeping.{people-user, told-user, same-member}
+use Rattle.history.specs.Sizes.{sized-append}
 use Rattle.history.specs.Ends.{laws-of}
 use Rattle.history.specs.Passing.{user-known}
-use Rattle.history.specs.QueueMoves.{queue-seen, MadeIn}
-use Rattle.history.specs.HoldMoves.{His, his-entry, held-anew, held-his, held-new, made-held, seen-held, all-held, hold-allowed}
+use Rattle.history.specs.QueueMoves.{queue-seen}
+use Rattle.history.specs.HoldMoves.{his-entry, nobodys, held-anew, held-his, held-new, new-shape, hold-allowed, entries-anew, seen-anew}
 
 -- a caller that may hold: in his session, not marked, not access-only
 pub record Serving (u : ℕ) (n : Nucleus) : Type 0 where
@@ -48,7 +45,7 @@ pub record Holdable (capacity : ℕ) (r : Request) (isn : ℕ) (n : Nucleus) : T
   pub mine : held-by-other (r .call .user) (holder-of r n isn) ≡ false
   pub room : held-by (r .call .user) (holder-of r n isn) ≡ false → n .state .count < capacity
 
-module _ (capacity : ℕ) (lent : List ℕ) (n : Nucleus) (j : Journal) (k : Kept capacity lent n j) (r : Request) (isn : ℕ)
+module _ (capacity : ℕ) (lent : Lent) (n : Nucleus) (j : Journal) (k : Kept capacity lent n j) (r : Request) (isn : ℕ)
     (s : Serving (r .call .user) n) (h : Holdable capacity r isn n) where
   abbrev u : ℕ
   u = r .call .user
@@ -121,27 +118,26 @@ module _ (capacity : ℕ) (lent : List ℕ) (n : Nucleus) (j : Journal) (k : Kep
   module _ (none-his : held-by u (holder-of r n isn) ≡ false) where
     anew : Kept capacity lent (held-anew r isn n) (with-member u (member-of x) j)
     anew = record {
-      sized = record {
-        shape = k .sized .shape;
-        valid = k .sized .valid;
-        capacity-sound = k .sized .capacity-sound;
-        made = rw (held-new r isn n none-his) at (made-held n capacity (k .sized .made) (k .sized .shape) r isn (h .small) (h .inside) small-user (h .mine) (h .room));
-      };
+      sized =
+          sized-append capacity lent (definition-of n) (n .store) (n .queue) (n .images) (n .state .count) (k .sized) (entry-for r isn n)
+          (new-shape n capacity (k .sized .made) (k .sized .shape) r isn (h .small) (h .inside) small-user (h .mine) (h .room))
+          (h .inside) (nobodys u (holder-of r n isn) none-his (h .mine)) (h .room none-his);
       people = record {
         user-count = old-people .user-count;
         users-sound = old-people .users-sound;
         entries-active =
-            rw (held-new r isn n none-his) at
-            (all-held n capacity (k .sized .made) (k .sized .shape) r isn (h .small) (h .inside) small-user (h .mine) (h .room) (entry-active us′) (old-people .entries-active) new-active);
+            rw (
+              entries-anew n capacity (k .sized .made) (k .sized .shape) r isn (h .small) (h .inside) small-user (h .mine) (h .room) none-his,
+              all-append (entry-active us′) (entries-of n) (entry-for r isn n ∷ []),
+              old-people .entries-active,
+              new-active,
+            );
       };
       marks-sound = k .marks-sound;
       data-sound = k .data-sound;
       told = told-user clock us u (s .least) (s .most) x (k .people .user-count) (λ a. x-active) j (k .told);
       invariant =
-          let seen-new : queue-seen (held-anew r isn n) ≡ with-hold u (key (r .call .file) isn) (queue-seen n) =
-          rw (held-new r isn n none-his) at (seen-held n capacity (k .sized .made) (k .sized .shape) r isn (h .small) (h .inside) small-user (h .mine) (h .room))
-          in
-          rw seen-new kept-hold;
+          rw (seen-anew n capacity (k .sized .made) (k .sized .shape) r isn (h .small) (h .inside) small-user (h .mine) (h .room) none-his) kept-hold;
     }
 
   pub kept-held : Kept capacity lent (held r isn n) (begun u j)

@@ -1,7 +1,7 @@
 -- The journal (document 01's book of requirement 3): it has the set-up's table and is fed each call's arguments, response and ISN. Nothing of
 -- the nucleus's state comes into it.
 use Prim.Native.Nat.{ℕ, zero, suc, _+_, _-_, max}
-use mathlib.Core.Bool.{Bool, true, false, not, _&&_, _||_}
+use mathlib.Core.Bool.{Bool, true, false, not, _&&_}
 use mathlib.Core.List.{List, [], _∷_, _++_, map}
 use mathlib.Core.Option.{Option, none, some}
 use lib.Dec.{eqb}

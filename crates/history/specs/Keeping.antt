@@ -1,27 +1,26 @@
 -- What is kept where a call changes a user, ET data, N1's mark or the clock, and neither store, queue nor images.
 -- Assumes nothing.
-use Prim.Native.Nat.{ℕ, zero, suc, _-_, _≤_, _<_, max}
-use native.Mathlib.Omega.{arith}
+use Prim.Native.Nat.{ℕ, zero, suc, _-_, _≤_, _<_}
 use mathlib.Core.Path.{_≡_, refl, sym, ap, _∙_}
-use mathlib.Core.Bool.{Bool, true, false, not, _||_}
+use mathlib.Core.Bool.{true}
 use mathlib.Core.List.{List, [], _∷_, map}
-use lib.Dec.{leb, ltb}
+use lib.Dec.{leb}
 use lib.ListN.{length, getD, set, length-set}
 use lib.Seq.{set-getD, getD-take}
 use borrow.Author.Tests.{le-leb}
-use Rattle.lists.specs.Tests.{Outcome, holds, fails, outcome, and-left, and-right}
-use Rattle.lists.specs.Folds.{all}
+use Rattle.lists.specs.Tests.{and-left, and-right}
 use Rattle.definition.specs.Table.{beyond, file-at, file-count, files-of}
-use Rattle.ground.specs.Keys.{isn-bound}
 use Rattle.definition.specs.declared.File.{File}
 use Rattle.entries.specs.declared.Entry.{Entry}
 use Rattle.nucleus.specs.Nucleus.{Nucleus, max-users, user-of, with-user, with-data, with-mark, with-clock, with-state, entries-of}
 use Rattle.nucleus.specs.WellMade.{marks-made, data-made}
 use Rattle.nucleus.specs.declared.User.{User}
 use Rattle.nucleus.specs.declared.EtData.{EtData}
-use Rattle.history.specs.Journal.{Journal, Member, Change, new-member, member, with-member}
+use Rattle.history.specs.Lists.{all-implies, all-set}
+use Rattle.history.specs.Journal.{Journal, new-member, with-member}
+use Rattle.history.specs.Lent.{Lent}
 use Rattle.history.specs.Kept.{Kept, People, Told, definition-of, user-sound, is-active, entry-active, change-sound, member-of, one-of-users}
-use Rattle.history.specs.People.{all-implies, all-set, sound-later, active-kept, members-set, member-is}
+use Rattle.history.specs.People.{change-isn, change-active, sound-change, sound-later, active-kept, members-set, member-is}
 
 -- ---- the users, where one of them becomes another value
 module _ (clock : ℕ) (us : List User) (u : ℕ) (least : 1 ≤ u) (most : u ≤ max-users) (x : User) (full : length us ≡ max-users) where
@@ -40,21 +39,11 @@ module _ (clock : ℕ) (us : List User) (u : ℕ) (least : 1 ≤ u) (most : u �
       entries-active = all-implies (entry-active us) (entry-active us′) (λ e. still (e .user)) es (p .entries-active);
     }
 
-    change-active : (c : Change) → change-sound us c ≡ true → change-sound us′ c ≡ true
-    change-active c h = go (outcome (c .uncommitted))
-      where
-        small : ltb (c .isn) isn-bound ≡ true
-        small = and-left (ltb (c .isn) isn-bound) (not (c .uncommitted) || is-active us (c .user)) h
-
-        go : Outcome (c .uncommitted) → change-sound us′ c ≡ true
-        go (holds t) = rw (small, t) (still (c .user) (rw (small, t) at h))
-        go (fails t) = rw (small, t)
-
     pub told-user : (j : Journal) → Told clock us j → Told clock us′ (with-member u (member-of x) j)
     told-user j t = record {
       same-clock = t .same-clock;
       same-members = ap (λ ms. set ms (u - 1) (member-of x)) (t .same-members) ∙ sym (members-set us full u least most x);
-      changes-sound = all-implies (change-sound us) (change-sound us′) change-active (j .changes) (t .changes-sound);
+      changes-sound = all-implies (change-sound us) (change-sound us′) (λ c h. sound-change us′ c (change-isn us c h) (λ o. still (c .user) (change-active us c h o))) (j .changes) (t .changes-sound);
     }
 
 -- a member that is set to what it is
@@ -70,7 +59,7 @@ marks-set (a ∷ marks) (f ∷ fs) zero isn h m = rw (le-leb isn (f .«max_isn»
 marks-set (a ∷ marks) (f ∷ fs) (suc i) isn h m =
     rw (and-left (leb a (f .«max_isn»)) (marks-made marks fs) h) (marks-set marks fs i isn (and-right (leb a (f .«max_isn»)) (marks-made marks fs) h) m)
 
-module _ (capacity : ℕ) (lent : List ℕ) (n : Nucleus) (j : Journal) (k : Kept capacity lent n j) where
+module _ (capacity : ℕ) (lent : Lent) (n : Nucleus) (j : Journal) (k : Kept capacity lent n j) where
   module _ (u : ℕ) (least : 1 ≤ u) (most : u ≤ max-users) (x : User) (sound : user-sound (n .state .clock) x ≡ true) (same : x .active ≡ user-of n u .active) where
     -- a user becomes another value; he stays in his transaction, or out of one
     pub kept-user : Kept capacity lent (with-state (with-user u x (n .state)) n) (with-member u (member-of x) j)

@@ -1,15 +1,16 @@
--- What holds of nucleus and journal after any list of calls: the state is well made, the journal has its clock and its transactions, and the
--- argument of requirement 3 (`Invariant` of `transactions`) holds of what is seen of store, queue and images.
+-- What holds of nucleus and journal after any list of calls: the state is well made, nothing past the sizes of what was lent is touched, the
+-- journal has its clock and its transactions, and the argument of requirement 3 (`Invariant` of `transactions`) holds of what is seen of store,
+-- queue and images.
 use Prim.Native.Nat.{ℕ, _-_}
 use mathlib.Core.Path.{_≡_}
-use mathlib.Core.Bool.{Bool, true, false, not, _&&_, _||_}
+use mathlib.Core.Bool.{Bool, true, not, _&&_, _||_}
 use mathlib.Core.List.{List, map}
 use mathlib.Core.Option.{Option, none, some}
-use lib.Dec.{eqb, leb, ltb}
+use lib.Dec.{leb, ltb}
 use lib.ListN.{length, getD}
 use Rattle.lists.specs.Tests.{cond, within}
 use Rattle.lists.specs.Folds.{all}
-use Rattle.definition.specs.Table.{max-files, files-of}
+use Rattle.definition.specs.Table.{files-of}
 use Rattle.definition.specs.Shape.{DefinitionShape}
 use Rattle.definition.specs.declared.Definition.{Definition}
 use Rattle.validity.specs.Validity as validity
@@ -23,20 +24,19 @@ use Rattle.nucleus.specs.Users.{default-time-limit, fresh-user, is-due}
 use Rattle.nucleus.specs.Nucleus.{Nucleus, max-users, max-capacity, entries-of}
 use Rattle.nucleus.specs.WellMade.{marks-made, data-made}
 use Rattle.nucleus.specs.declared.User.{User}
-use Rattle.nucleus.specs.declared.State.{State}
 use Rattle.history.specs.Journal.{Journal, Member, Change}
-use Rattle.history.specs.Run.{World}
 use Rattle.history.specs.Updates.{updates, logged}
+use Rattle.history.specs.Lent.{Lent, Past}
 
 -- ---- what the abstract machine is, of a nucleus
 abbrev pub definition-of : Nucleus → Definition
 definition-of n = n .state .definition
 
--- `lent` is the store as it was lent at set-up
-abbrev pub ground-of : List ℕ → Nucleus → Ground
-ground-of lent n = ground (definition-of n) (updates (definition-of n)) lent
+-- over the store as it was lent at set-up
+abbrev pub ground-of : Lent → Nucleus → Ground
+ground-of lent n = ground (definition-of n) (updates (definition-of n)) (lent .store)
 
-abbrev pub seen : (lent : List ℕ) (n : Nucleus) → Machine (ground-of lent n)
+abbrev pub seen : (lent : Lent) (n : Nucleus) → Machine (ground-of lent n)
 seen lent n = record { store = n .store; queue = queue-of (definition-of n) (n .queue) (n .images) (n .state .count) }
 
 -- ---- users
@@ -66,12 +66,14 @@ abbrev pub change-sound : List User → Change → Bool
 change-sound us c = ltb (c .isn) isn-bound && (not (c .uncommitted) || is-active us (c .user))
 
 -- ---- all of it, by what it speaks of
--- the table, and the store, the queue and the images that were lent for it
-pub record Sized (capacity : ℕ) (d : Definition) (store queue images : List ℕ) (count : ℕ) : Type 0 where
+-- the table that set-up read, and the store, the queue and the images that were lent for it
+pub record Sized (capacity : ℕ) (lent : Lent) (d : Definition) (store queue images : List ℕ) (count : ℕ) : Type 0 where
+  pub same-table : d ≡ lent .definition
   pub shape : DefinitionShape d
   pub valid : validity.valid d ≡ true
   pub capacity-sound : within 1 max-capacity capacity ≡ true
   pub made : Made d capacity store queue images count
+  pub past : Past capacity d lent store queue images
 
 -- the users, and whose the entries are
 pub record People (clock : ℕ) (us : List User) (es : List Entry) : Type 0 where
@@ -85,9 +87,9 @@ pub record Told (clock : ℕ) (us : List User) (j : Journal) : Type 0 where
   pub same-members : j .members ≡ map member-of us
   pub changes-sound : all (change-sound us) (j .changes) ≡ true
 
-module _ (capacity : ℕ) (lent : List ℕ) where
+module _ (capacity : ℕ) (lent : Lent) where
   pub record Kept (n : Nucleus) (j : Journal) : Type 0 where
-    pub sized : Sized capacity (definition-of n) (n .store) (n .queue) (n .images) (n .state .count)
+    pub sized : Sized capacity lent (definition-of n) (n .store) (n .queue) (n .images) (n .state .count)
     pub people : People (n .state .clock) (n .state .users) (entries-of n)
     pub marks-sound : marks-made (n .state .«last_assigned») (files-of (definition-of n)) ≡ true
     pub data-sound : all data-made (n .state .«et_data») ≡ true

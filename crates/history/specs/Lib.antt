@@ -1,8 +1,12 @@
 pub mod Journal
 pub mod Run
 pub mod Claim
+pub mod Feeding
+pub mod Lent
+pub mod Statements
 pub mod Updates
 pub mod Kept
+pub mod Sizes
 pub mod Accepted
 pub mod People
 pub mod Keeping
@@ -29,4 +33,3 @@ pub mod Stepping
 pub mod Resting
 pub mod Records
 pub mod Theorem
-pub mod Feeding

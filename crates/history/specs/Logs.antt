@@ -2,11 +2,11 @@
 -- Assumes nothing.
 use Prim.Native.Nat.{ℕ}
 use mathlib.Core.Path.{_≡_, refl, sym, ap}
-use mathlib.Core.Bool.{Bool, true, false, not, _&&_}
+use mathlib.Core.Bool.{Bool, true, false, not}
 use mathlib.Core.List.{List, [], _∷_, _++_, map, map-append}
 use lib.Dec.{eqb}
 use Rattle.lists.specs.Sift.{keep, sift}
-use Rattle.transactions.specs.Machine.{Ground, Operation, change, end, back-out, log, strike, closed}
+use Rattle.transactions.specs.Machine.{Ground, change, end, back-out, log, strike, closed}
 use Rattle.ground.specs.Keys.{key}
 use Rattle.ground.specs.Ground.{ground}
 use Rattle.definition.specs.declared.Definition.{Definition}

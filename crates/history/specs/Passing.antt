@@ -2,27 +2,27 @@
 -- Assumes nothing.
 use Prim.Native.Nat.{ℕ, zero, suc, _+_, _-_, _≤_, _<_, max}
 use native.Mathlib.Omega.{arith}
-use mathlib.Core.Path.{_≡_, refl, sym, ap, _∙_}
-use mathlib.Core.Bool.{Bool, true, false, not, _&&_}
-use mathlib.Core.List.{List, [], _∷_}
-use mathlib.Core.Option.{Option, none, some}
+use mathlib.Core.Path.{_≡_, refl, ap, _∙_}
+use mathlib.Core.Bool.{Bool, true, false}
 use lib.Dec.{eqb}
 use lib.ListN.{length, getD}
 use borrow.Author.Tests.{eqb-true, eqb-false}
 use Rattle.lists.specs.Tests.{cond, Outcome, holds, fails, outcome}
 use Rattle.nucleus.specs.Users.{fresh-user, is-due, ended, marked}
-use Rattle.nucleus.specs.Nucleus.{Nucleus, max-users, user-of, with-user, with-clock, with-state, change-user}
+use Rattle.nucleus.specs.Nucleus.{Nucleus, max-users, user-of, with-clock, with-state, change-user}
 use Rattle.nucleus.specs.Clock as nucleus
 use Rattle.nucleus.specs.Clock.{backed-out, removed}
 use Rattle.nucleus.specs.declared.User.{User}
+use Rattle.history.specs.Lists.{all-getD, all-index}
 use Rattle.history.specs.Journal as journal
 use Rattle.history.specs.Journal.{Journal, member, struck, is-late}
-use Rattle.history.specs.Kept.{Kept, Rested, user-sound, member-of, start-of, one-of-users}
-use Rattle.history.specs.People.{all-getD, all-index, active-sound, sound-idle, user-own, user-other, member-is}
+use Rattle.history.specs.Lent.{Lent}
+use Rattle.history.specs.Kept.{Kept, Rested, user-sound, member-of, start-of}
+use Rattle.history.specs.People.{active-sound, sound-idle, user-own, user-other, member-is}
 use Rattle.history.specs.Keeping.{kept-like, kept-clock}
 use Rattle.history.specs.Ends.{kept-backed-out}
 
-module _ (capacity : ℕ) (lent : List ℕ) where
+module _ (capacity : ℕ) (lent : Lent) where
   module _ (n : Nucleus) (j : Journal) (k : Kept capacity lent n j) where
     pub user-known : (u : ℕ) → user-sound (n .state .clock) (user-of n u) ≡ true
     user-known u = all-getD (user-sound (n .state .clock)) (n .state .users) (u - 1) fresh-user (k .people .users-sound) refl

@@ -1,45 +1,22 @@
 -- One user of the list changes: what that does to each user's own soundness, to whose entries and changes stand, and to the journal's members.
 -- Assumes nothing.
-use Prim.Native.Nat.{ℕ, zero, suc, _+_, _-_, _≤_, suc-le-suc, _<_}
+use Prim.Native.Nat.{ℕ, _-_, _≤_}
 use native.Mathlib.Omega.{arith}
-use mathlib.Core.Path.{_≡_, refl, sym, ap, _∙_}
-use mathlib.Core.Bool.{Bool, true, false, not, _&&_, _||_}
-use mathlib.Core.List.{List, [], _∷_, map}
-use mathlib.Core.Option.{Option, none, some}
+use mathlib.Core.Path.{_≡_}
+use mathlib.Core.Bool.{true, false, not, _&&_, _||_}
+use mathlib.Core.List.{List, map}
 use lib.Dec.{eqb, leb, ltb}
-use lib.ListN.{length, getD, set, length-set, length-map, List·getD-map}
-use lib.Seq.{getD-set-same, getD-set-other, set-getD, set-set}
-use borrow.Author.Tests.{eqb-true, eqb-false, leb-true, le-leb, not-true, ne-eqb}
-use Rattle.lists.specs.Tests.{or-true, cond, within, within-inside, within-least, within-most, Outcome, holds, fails, outcome, and-left, and-right, not-both, eqb-self}
-use Rattle.lists.specs.Folds.{all}
+use lib.ListN.{length, set, List·getD-map}
+use lib.Seq.{getD-set-same, getD-set-other}
+use borrow.Author.Tests.{eqb-true, eqb-false, leb-true, le-leb, not-true}
+use Rattle.lists.specs.Tests.{or-true, within, within-inside, within-least, Outcome, holds, fails, outcome, and-left, and-right}
 use Rattle.lists.specs.Maps.{map-set}
-use Rattle.entries.specs.declared.Entry.{Entry}
+use Rattle.ground.specs.Keys.{isn-bound}
 use Rattle.nucleus.specs.Users.{fresh-user}
 use Rattle.nucleus.specs.Nucleus.{max-users}
 use Rattle.nucleus.specs.declared.User.{User}
-use Rattle.history.specs.Journal.{Journal, Member, Change, new-member, member}
-use Rattle.history.specs.Kept.{user-sound, one-of-users, is-active, entry-active, member-of, change-sound}
-
--- ---- every element, of a list that changes
-module _ {A : Type 0} where
-  pub all-implies : (p q : A → Bool) → ((x : A) → p x ≡ true → q x ≡ true) → (xs : List A) → all p xs ≡ true → all q xs ≡ true
-  all-implies p q f [] h = refl
-  all-implies p q f (x ∷ xs) h = rw (f x (and-left (p x) (all p xs) h), all-implies p q f xs (and-right (p x) (all p xs) h))
-
-  pub all-set : (p : A → Bool) (xs : List A) (i : ℕ) (x : A) → all p xs ≡ true → p x ≡ true → all p (set xs i x) ≡ true
-  all-set p [] i x h k = refl
-  all-set p (y ∷ ys) zero x h k = rw (k, and-right (p y) (all p ys) h)
-  all-set p (y ∷ ys) (suc i) x h k = rw (and-left (p y) (all p ys) h, all-set p ys i x (and-right (p y) (all p ys) h) k)
-
-  -- the default passes too
-  pub all-getD : (p : A → Bool) (xs : List A) (i : ℕ) (d : A) → all p xs ≡ true → p d ≡ true → p (getD xs i d) ≡ true
-  all-getD p [] i d h k = k
-  all-getD p (y ∷ ys) zero d h k = and-left (p y) (all p ys) h
-  all-getD p (y ∷ ys) (suc i) d h k = all-getD p ys i d (and-right (p y) (all p ys) h) k
-
-  pub all-index : (p : A → Bool) (d : A) (xs : List A) → ((i : ℕ) → i < length xs → p (getD xs i d) ≡ true) → all p xs ≡ true
-  all-index p d [] h = refl
-  all-index p d (x ∷ xs) h = rw (h zero (omega arith), all-index p d xs (λ i b. h (suc i) (suc-le-suc b)))
+use Rattle.history.specs.Journal.{Journal, member, Change}
+use Rattle.history.specs.Kept.{user-sound, one-of-users, is-active, member-of, change-sound}
 
 -- ---- one user
 -- what is asked of a user in a transaction
@@ -74,6 +51,23 @@ sound-later clock later m u h = go (outcome (u .active))
         let k = active-sound clock u h a in
         sound-active later u (record { session = k .session; begun = omega (arith, k .begun, m); unmarked = k .unmarked; changing = k .changing })
     go (fails a) = sound-idle later u a
+
+-- ---- one change
+-- its ISN, and whose it is while it is open
+module _ (us : List User) (c : Change) where
+  module _ (h : change-sound us c ≡ true) where
+    pub change-isn : ltb (c .isn) isn-bound ≡ true
+    change-isn = and-left (ltb (c .isn) isn-bound) (not (c .uncommitted) || is-active us (c .user)) h
+
+    pub change-active : c .uncommitted ≡ true → is-active us (c .user) ≡ true
+    change-active o = rw (change-isn, o) at h
+
+  pub sound-change : ltb (c .isn) isn-bound ≡ true → (c .uncommitted ≡ true → is-active us (c .user) ≡ true) → change-sound us c ≡ true
+  sound-change small active = go (outcome (c .uncommitted))
+    where
+      go : Outcome (c .uncommitted) → change-sound us c ≡ true
+      go (holds o) = rw (small, o) (active o)
+      go (fails o) = rw (small, o)
 
 -- ---- one user of the list becomes another value
 module _ (us : List User) (full : length us ≡ max-users) (u : ℕ) (least : 1 ≤ u) (most : u ≤ max-users) (x : User) where

@@ -1,38 +1,30 @@
 -- The commands that change no record, where no row of the response table refuses them: what is kept, and that nobody is overdue.
 -- Assumes nothing.
-use Prim.Native.Nat.{ℕ, _+_, _-_, _≤_, _<_}
+use Prim.Native.Nat.{ℕ, _-_, _≤_}
 use native.Mathlib.Omega.{arith}
 use mathlib.Core.Path.{_≡_, refl, sym, ap, _∙_}
-use mathlib.Core.Bool.{Bool, true, false, not, _&&_, _||_}
-use mathlib.Core.List.{List, [], _∷_}
-use mathlib.Core.Option.{Option, none, some}
-use lib.Dec.{eqb, leb, ltb}
+use mathlib.Core.Bool.{Bool, true, false, not}
+use lib.Dec.{eqb, ltb}
 use lib.ListN.{length, set}
-use borrow.Author.Tests.{not-true, not-false, le-ltb, ltb-false, le-leb}
-use Rattle.lists.specs.Tests.{cond, Outcome, holds, fails, outcome, within, not-both, and-left, and-right, or-left, or-right}
+use borrow.Author.Tests.{not-true, le-ltb, ltb-false, le-leb}
+use Rattle.lists.specs.Tests.{cond, Outcome, holds, fails, outcome}
 use Rattle.lists.specs.Folds.{all}
-use Rattle.queue.specs.Queue.{holder}
-use Rattle.images.specs.declared.Removal.the-variants.{One, Unchanged, All}
-use Rattle.ground.specs.Keys.{isn-bound}
-use Rattle.nucleus.specs.Commands.{one-of, option-A}
-use Rattle.nucleus.specs.Users.{default-time-limit, or-default, fresh-user, is-due, started, with-transaction, ended, counted, set-session, closed}
-use Rattle.nucleus.specs.Nucleus.{Nucleus, Request, Result, max-users, max-et-data, beyond-data, data-at, with-user, with-data, with-state, user-of, change-user, entries-of}
+use Rattle.images.specs.declared.Removal.the-variants.{All}
+use Rattle.nucleus.specs.Users.{default-time-limit, or-default, fresh-user, is-due, started, ended, counted, set-session, closed}
+use Rattle.nucleus.specs.Nucleus.{Nucleus, Request, max-users, max-et-data, beyond-data, data-at, with-user, with-state, user-of, change-user}
 use Rattle.nucleus.specs.WellMade.{data-made}
 use Rattle.nucleus.specs.Clock.{removed, backed-out}
-use Rattle.nucleus.specs.Rows.{record-length-refused}
 use Rattle.nucleus.specs.Effects.{held, data-for, next-sequence, ended-for}
-use Rattle.nucleus.specs.declared.Command.{Command}
-use Rattle.nucleus.specs.declared.Command.the-variants.{Op, Cl}
 use Rattle.nucleus.specs.declared.User.{User}
-use Rattle.nucleus.specs.declared.EtData.{EtData}
-use Rattle.history.specs.Journal.{Journal, member, with-member, begun, struck, limited}
+use Rattle.history.specs.Lists.{all-set, all-getD}
+use Rattle.history.specs.Journal.{Journal, with-member, begun, struck, limited}
 use Rattle.history.specs.Journal as journal
-use Rattle.history.specs.Kept.{Kept, Rested, user-sound, member-of, start-of}
-use Rattle.history.specs.People.{all-set, all-getD, sound-idle, member-is}
+use Rattle.history.specs.Lent.{Lent}
+use Rattle.history.specs.Kept.{Kept, Rested, member-of}
+use Rattle.history.specs.People.{sound-idle, member-is}
 use Rattle.history.specs.Keeping.{kept-user, kept-data}
 use Rattle.history.specs.Ends.{idle-member, kept-ended, kept-backed-out}
 use Rattle.history.specs.Passing.{Passed}
-use Rattle.history.specs.HoldMoves.{held-his, held-new}
 use Rattle.history.specs.Holding.{Serving, Holdable, kept-held}
 
 -- ---- nobody is overdue, still
@@ -65,7 +57,7 @@ module _ (n : Nucleus) (rested : Rested n) where
       go true = rested
       go false = rested-set (r .call .user) (started clock (user-of n (r .call .user))) (started-quiet (r .call .user))
 
-module _ (capacity : ℕ) (lent : List ℕ) (n : Nucleus) (j : Journal) (p : Passed capacity lent n j) (r : Request) where
+module _ (capacity : ℕ) (lent : Lent) (n : Nucleus) (j : Journal) (p : Passed capacity lent n j) (r : Request) where
   abbrev u : ℕ
   u = r .call .user
 

@@ -3,9 +3,8 @@
 use Prim.Native.Nat.{ℕ, _≤_, _<_}
 use native.Mathlib.Omega.{arith}
 use mathlib.Core.Path.{_≡_, refl, sym, ap, _∙_}
-use mathlib.Core.Logic.{_≢_}
-use mathlib.Core.Bool.{Bool, true, false, not, _&&_, _||_}
-use mathlib.Core.List.{List, [], _∷_, map}
+use mathlib.Core.Bool.{true, false}
+use mathlib.Core.List.{List, [], _∷_}
 use mathlib.Core.Option.{Option, none, some}
 use lib.Dec.{eqb, ltb}
 use lib.ListN.{length}
@@ -14,7 +13,7 @@ use Rattle.lists.specs.Tests.{and-false, cond, Outcome, holds, fails, outcome, 
 use Rattle.lists.specs.Folds.{any, all}
 use Rattle.lists.specs.Sift.{any-sift}
 use Rattle.definition.specs.Table.{beyond, file-at, field-at, field-count}
-use Rattle.definition.specs.Shape.{DefinitionShape, file-shape-at}
+use Rattle.definition.specs.Shape.{file-shape-at}
 use Rattle.definition.specs.declared.Definition.{Definition}
 use Rattle.definition.specs.declared.File.{File}
 use Rattle.definition.specs.declared.FieldOption.the-variants.{Unique}
@@ -25,21 +24,24 @@ use Rattle.layout.specs.declared.Found.the-variants.{At, Nowhere}
 use Rattle.lists.specs.Numbers.{numbers}
 use Rattle.ground.specs.Lists.{in-numbers}
 use Rattle.store.specs.Store as records
-use Rattle.store.specs.Store.{slot-count, file-part, field-value}
+use Rattle.store.specs.Store.{slot-count, file-part}
 use Rattle.transactions.specs.Machine.{replay}
-use Rattle.transactions.specs.Theorems.{same-slots, no-value-twice, Two, Apart}
-use Rattle.ground.specs.Keys.{isn-bound, key, key-file, key-isn, file-of-key, isn-of-key, key-test, file-found, file-of, known, known-at, keys, keys-known}
+use Rattle.transactions.specs.Theorems.{same-slots, no-value-twice}
+use Rattle.ground.specs.Keys.{isn-bound, key, key-file, file-of-key, isn-of-key, key-test, file-found, file-of, known, known-at, keys, keys-known}
 use Rattle.ground.specs.Store.{get, get-at}
 use Rattle.ground.specs.StoreLaws.{get-is}
 use Rattle.ground.specs.Ground.{is-unique, uniques}
 use Rattle.nucleus.specs.Nucleus.{Nucleus}
 use Rattle.nucleus.specs.declared.User.{User}
 use Rattle.nucleus.specs.Target.{file-in, part-in}
+use Rattle.history.specs.Lists.{elem-both}
 use Rattle.history.specs.Journal.{Journal, Change, apply, is-at, replayed, record-told}
 use Rattle.history.specs.Run.{record-in}
 use Rattle.history.specs.Claim.{SameRecords, UniqueValues, file-numbered}
-use Rattle.history.specs.Updates.{as-change, logged}
-use Rattle.history.specs.Kept.{Kept, definition-of, ground-of, seen, is-active, change-sound}
+use Rattle.history.specs.Updates.{logged}
+use Rattle.history.specs.Lent.{Lent}
+use Rattle.history.specs.Kept.{Kept, definition-of, ground-of, seen, change-sound}
+use Rattle.history.specs.People.{change-isn}
 use Rattle.history.specs.Ends.{laws-of}
 
 -- ---- the file, as `ground` and as `nucleus` find it
@@ -61,14 +63,6 @@ none-outside f part isn bad = go (outcome (within 1 (slot-count f (length part))
     go (fails t) = rw t
 
 -- a unique field in use is one of those that are judged
-elem-both : (q : ℕ → Bool) (f : ℕ) (xs : List ℕ) → any (eqb f) xs ≡ true → q f ≡ true → any (λ x. q x && eqb f x) xs ≡ true
-elem-both q f [] h t = h
-elem-both q f (x ∷ xs) h t = go (outcome (eqb f x)) (elem-both q f xs)
-  where
-    go : Outcome (eqb f x) → (any (eqb f) xs ≡ true → q f ≡ true → any (λ y. q y && eqb f y) xs ≡ true) → any (λ y. q y && eqb f y) (x ∷ xs) ≡ true
-    go (holds e) later = let same : f ≡ x = eqb-true f x e in rw (e, ← same, t)
-    go (fails e) later = rw (e, and-false (q x)) (later (rw e at h) t)
-
 unique-place : (f : File) (i : ℕ) → i < field-count f → field-at f i .option ≡ Unique → any (eqb i) (uniques f) ≡ true
 unfolding uniques
 unique-place f i used unique =
@@ -76,9 +70,9 @@ unique-place f i used unique =
     ∙ elem-both (λ x. is-unique (field-at f x .option)) i (numbers (field-count f) 0) (in-numbers (field-count f) 0 i (omega arith) (omega (arith, used))) (rw unique)
 
 change-small : (us : List User) (c : Change) → change-sound us c ≡ true → c .isn < isn-bound
-change-small us c h = ltb-true (c .isn) isn-bound (and-left (ltb (c .isn) isn-bound) (not (c .uncommitted) || is-active us (c .user)) h)
+change-small us c h = ltb-true (c .isn) isn-bound (change-isn us c h)
 
-module _ (capacity : ℕ) (lent : List ℕ) (n : Nucleus) (j : Journal) (k : Kept capacity lent n j) where
+module _ (capacity : ℕ) (lent : Lent) (n : Nucleus) (j : Journal) (k : Kept capacity lent n j) where
   abbrev d : Definition
   d = definition-of n
 

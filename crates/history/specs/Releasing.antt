@@ -2,13 +2,11 @@
 -- Assumes nothing.
 use Prim.Native.Nat.{ℕ, _<_}
 use mathlib.Core.Path.{_≡_, refl}
-use mathlib.Core.Bool.{Bool, true, false}
-use mathlib.Core.List.{List}
-use Rattle.lists.specs.Folds.{all}
+use mathlib.Core.Bool.{true, false}
 use Rattle.queue.specs.Queue.{holder}
 use Rattle.images.specs.declared.Removal.{Removal}
 use Rattle.images.specs.declared.Removal.the-variants.{One, Unchanged}
-use Rattle.transactions.specs.Machine.{Operation, Machine, release, release-all, allowed, act, log}
+use Rattle.transactions.specs.Machine.{Operation, release, release-all, allowed, act, log}
 use Rattle.transactions.specs.Theorems.{Invariant, kept-act}
 use Rattle.ground.specs.Keys.{isn-bound, key}
 use Rattle.nucleus.specs.Nucleus.{Nucleus, entries-of}
@@ -16,21 +14,18 @@ use Rattle.nucleus.specs.Clock.{removed}
 use Rattle.nucleus.specs.Target.{held-by, changed-in}
 use Rattle.history.specs.Journal.{Journal}
 use Rattle.history.specs.Updates.{FileUpdate, logged}
-use Rattle.history.specs.Kept.{Kept, ground-of, seen, entry-active}
+use Rattle.history.specs.Lent.{Lent}
+use Rattle.history.specs.Kept.{Kept, definition-of, ground-of, seen, entry-active}
+use Rattle.history.specs.Sizes.{sized-removed}
 use Rattle.history.specs.Ends.{laws-of}
-use Rattle.history.specs.QueueMoves.{queue-seen, made-removed, all-removed, seen-release-all, seen-release}
+use Rattle.history.specs.QueueMoves.{queue-seen, all-removed, seen-release-all, seen-release}
 
-module _ (capacity : ℕ) (lent : List ℕ) (n : Nucleus) (j : Journal) (k : Kept capacity lent n j) where
+module _ (capacity : ℕ) (lent : Lent) (n : Nucleus) (j : Journal) (k : Kept capacity lent n j) where
   -- entries go, and the argument of requirement 3 holds of what is left
   kept-removed : (which : Removal) → Invariant (ground-of lent n) (record { store = n .store; queue = queue-seen (removed which n) }) (logged (j .changes)) → Kept capacity lent (removed which n) j
   unfolding removed
   kept-removed which i = record {
-    sized = record {
-      shape = k .sized .shape;
-      valid = k .sized .valid;
-      capacity-sound = k .sized .capacity-sound;
-      made = made-removed n capacity (k .sized .made) which;
-    };
+    sized = sized-removed capacity lent (definition-of n) (n .store) (n .queue) (n .images) (n .state .count) (k .sized) which;
     people = record {
       user-count = k .people .user-count;
       users-sound = k .people .users-sound;

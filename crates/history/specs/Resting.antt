@@ -1,36 +1,35 @@
 -- Between calls nobody is overdue: a call with clock 0 backs nobody out. A BT of a user in a transaction answers 0 then.
 -- Assumes nothing.
-use Prim.Native.Nat.{ℕ, zero, suc, _+_, _-_, _≤_, max}
+use Prim.Native.Nat.{ℕ, zero, suc, _+_, _-_, max}
 use native.Mathlib.Omega.{arith}
-use mathlib.Core.Path.{_≡_, refl, sym, ap, _∙_}
-use mathlib.Core.Bool.{Bool, true, false, not, _&&_}
-use mathlib.Core.List.{List, [], _∷_}
-use mathlib.Core.Option.{Option, none, some}
+use mathlib.Core.Path.{_≡_, refl, ap, _∙_}
+use mathlib.Core.Bool.{Bool, true, false}
+use mathlib.Core.List.{[]}
+use mathlib.Core.Option.{none}
 use lib.ListN.{set}
 use lib.Seq.{set-getD}
-use Rattle.lists.specs.Tests.{cond, Outcome, holds, fails, outcome, within, within-least, within-most, not-both, and-left, and-right}
+use Rattle.lists.specs.Tests.{cond, within, not-both, and-left, and-right}
 use Rattle.nucleus.specs.Commands.{command-of, has-option}
 use Rattle.nucleus.specs.Users.{fresh-user, opening, opened}
-use Rattle.nucleus.specs.Nucleus.{Nucleus, Request, Result, max-users, user-of, with-clock, with-state, change-user}
+use Rattle.nucleus.specs.Nucleus.{Nucleus, Request, max-users, user-of, with-clock, with-state, change-user}
 use Rattle.nucleus.specs.Clock as nucleus
-use Rattle.nucleus.specs.Clock.{backed-out}
 use Rattle.nucleus.specs.Rows.{first-cause, rows-first, rows-last, overdue-mark, ends-active, access-refused, file-unknown, isn-invalid, format-refused, field-twice, record-length-refused, value-refused, none-found, held-elsewhere, presence-refused, not-held, release-refused, file-full, limit-reached, queue-full, value-taken}
 use Rattle.nucleus.specs.Effects.{effect-at, effect}
-use Rattle.nucleus.specs.Step.{unless, refusal, perform, serve, request, serve-command, step}
+use Rattle.nucleus.specs.Step.{unless, refusal, perform, serve, request, step}
 use Rattle.nucleus.specs.declared.Command.the-variants.{Bt}
-use Rattle.nucleus.specs.declared.Response.{Response}
 use Rattle.nucleus.specs.declared.Response.the-variants.{Good}
 use Rattle.nucleus.specs.declared.User.{User}
 use Rattle.history.specs.Journal as journal
-use Rattle.history.specs.Journal.{Journal, in-transaction, is-late, member, struck, fed, started}
-use Rattle.history.specs.Run.{Given, bt}
-use Rattle.history.specs.Kept.{Kept, Rested, start-of, user-sound}
+use Rattle.history.specs.Journal.{Journal, in-transaction, member, started}
+use Rattle.history.specs.Run.{bt}
+use Rattle.history.specs.Lent.{Lent}
+use Rattle.history.specs.Kept.{start-of}
 use Rattle.history.specs.People.{ActiveSound, active-sound, member-is}
 use Rattle.history.specs.Passing.{Passed, user-known, late-as-due}
 use Rattle.history.specs.Standing.{well-made-kept, long-kept}
 use Rattle.history.specs.Performing.{quiet-user}
 
-module _ (capacity : ℕ) (lent : List ℕ) (n : Nucleus) (j : Journal) (p : Passed capacity lent n j) where
+module _ (capacity : ℕ) (lent : Lent) (n : Nucleus) (j : Journal) (p : Passed capacity lent n j) where
   -- ---- clock 0
   nucleus-from : (more u : ℕ) → nucleus.timed-out-from more u n ≡ n
   nucleus-from zero u = refl

@@ -1,8 +1,7 @@
 -- A list of calls, one after another, on the nucleus and on the journal; and users backed out afterwards.
 use Prim.Native.Nat.{ℕ}
-use mathlib.Core.List.{List, [], _∷_, map}
+use mathlib.Core.List.{List, [], _∷_}
 use mathlib.Core.Option.{Option}
-use Rattle.definition.specs.declared.Definition.{Definition}
 use Rattle.layout.specs.Layout.{place}
 use Rattle.store.specs.Store.{get}
 use Rattle.nucleus.specs.Commands.{code, blank}
@@ -11,7 +10,6 @@ use Rattle.nucleus.specs.Nucleus.{Nucleus, Result}
 use Rattle.nucleus.specs.Target.{file-in, part-in}
 use Rattle.nucleus.specs.Step.{step, set-up}
 use Rattle.nucleus.specs.declared.Call.{Call}
-use Rattle.nucleus.specs.declared.Answer.{Answer}
 use Rattle.nucleus.specs.declared.Command.the-variants.{Bt}
 use Rattle.history.specs.Journal.{Journal, new-journal, fed, struck}
 

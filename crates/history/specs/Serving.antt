@@ -1,37 +1,31 @@
 -- A call past its clock: whatever it answers, what is kept stays so, and the journal is told the same.
 -- Assumes nothing.
-use Prim.Native.Nat.{ℕ, _-_, _≤_, _<_}
-use native.Mathlib.Omega.{arith}
-use mathlib.Core.Path.{_≡_, refl, sym, ap, _∙_}
+use Prim.Native.Nat.{ℕ, _≤_}
+use mathlib.Core.Path.{_≡_, refl, ap}
 use mathlib.Core.Bool.{Bool, true, false, not, _&&_, _||_}
 use mathlib.Core.List.{List, [], _∷_}
 use mathlib.Core.Logic.{_⊎_, inl, inr}
-use mathlib.Core.Option.{Option, none, some}
+use mathlib.Core.Option.{none, some}
 use lib.Dec.{eqb, ltb}
 use lib.ListN.{length}
-use borrow.Author.Tests.{eqb-true, not-true, not-false, leb-false}
-use Rattle.lists.specs.Tests.{and-false, cond, Outcome, holds, fails, outcome, within, within-most, not-both, and-left, and-right, or-left, or-right}
+use borrow.Author.Tests.{eqb-true, not-false, leb-false}
+use Rattle.lists.specs.Tests.{and-false, cond, Outcome, holds, fails, outcome, within, not-both, and-left, and-right}
 use Rattle.lists.specs.Folds.{all}
-use Rattle.definition.specs.Table.{file-at, file-count}
-use Rattle.definition.specs.Shape.{file-shape-at}
-use Rattle.queue.specs.Queue.{holder}
 use Rattle.images.specs.declared.Removal.the-variants.{One, Unchanged}
-use Rattle.layout.specs.declared.Found.the-variants as found-at
-use Rattle.ground.specs.Keys.{isn-bound}
 use Rattle.nucleus.specs.Commands.{one-of, has-option, blank, option-I, option-H, option-A}
 use Rattle.nucleus.specs.Responses.{number}
-use Rattle.nucleus.specs.Nucleus.{Nucleus, Request, Result, max-users, max-et-data, user-of, entries-of}
-use Rattle.nucleus.specs.Target.{is-file, held-by, held-by-other, changed-in, found, file, holder-of, target, target-isn}
+use Rattle.nucleus.specs.Nucleus.{Nucleus, Request, Result, max-users, max-et-data, user-of}
+use Rattle.nucleus.specs.Target.{is-file, held-by, changed-in, found, file, holder-of, target, target-isn}
 use Rattle.nucleus.specs.Clock.{removed}
-use Rattle.nucleus.specs.Rows.{new-record, Row, first-cause, rows-last, his, access-refused, file-unknown, isn-invalid, record-length-refused, held-elsewhere, not-held, release-refused, queue-full}
+use Rattle.nucleus.specs.Rows.{new-record, Row, first-cause, his, access-refused, file-unknown, isn-invalid, record-length-refused, held-elsewhere, not-held, release-refused, queue-full}
 use Rattle.nucleus.specs.Effects.{held, effect-at, released, written, erased, with-last}
-use Rattle.nucleus.specs.Step.{unless, refusal, perform}
 use Rattle.nucleus.specs.declared.Command.{Command}
 use Rattle.nucleus.specs.declared.Command.the-variants.{Hi, Ri, L1, L4, A1, E1, N1, N2, Et, Bt, Re, Op, Cl}
 use Rattle.nucleus.specs.declared.Response.{Response}
 use Rattle.history.specs.Journal.{Journal, add, begun, changed, is-early, answered}
-use Rattle.history.specs.Kept.{Kept, Rested, definition-of}
-use Rattle.history.specs.Accepted.{Accepted, accepted, is-cause}
+use Rattle.history.specs.Lent.{Lent}
+use Rattle.history.specs.Kept.{Kept, Rested}
+use Rattle.history.specs.Accepted.{Accepted, is-cause}
 use Rattle.history.specs.Keeping.{kept-mark}
 use Rattle.history.specs.Passing.{Passed}
 use Rattle.history.specs.Holding.{Serving, Holdable}
@@ -70,11 +64,11 @@ pub record Ready (r : Request) (n : Nucleus) : Type 0 where
   pub option : has-option (r .command) (r .call .option) ≡ true
 
 -- what a call answers and leaves, beside what the journal makes of it
-pub record Served (lent : List ℕ) (r : Request) (j : Journal) (c : Command) (x : Result) : Type 0 where
+pub record Served (lent : Lent) (r : Request) (j : Journal) (c : Command) (x : Result) : Type 0 where
   pub passed : Passed (r .capacity) lent (x .nucleus) (answered (some c) (r .call) (r .format) (r .buffer) (number (x .answer .response)) (x .answer .isn) j)
   pub not-early : is-early (number (x .answer .response)) ≡ false
 
-module _ (lent : List ℕ) (n : Nucleus) (j : Journal) (r : Request) (p : Passed (r .capacity) lent n j) (y : Ready r n) (a : Accepted r n) where
+module _ (lent : Lent) (n : Nucleus) (j : Journal) (r : Request) (p : Passed (r .capacity) lent n j) (y : Ready r n) (a : Accepted r n) where
   abbrev u : ℕ
   u = r .call .user
 
@@ -195,14 +189,14 @@ module _ (lent : List ℕ) (n : Nucleus) (j : Journal) (r : Request) (p : Passed
 
   -- ---- A1, E1, N1, N2
   module _ (c : Changes r) (s : Serving u n) where
-    changes-to : (m : Nucleus) → Changed (r .capacity) r n (slot-of r n c) m → Passed (r .capacity) lent m (changed (r .call) isn (update-of r c) (begun u j))
+    changes-to : (m : Nucleus) → Changed (r .capacity) lent r n (slot-of r n c) m → Passed (r .capacity) lent m (changed (r .call) isn (update-of r c) (begun u j))
     changes-to m ch = passed-changed lent n j r p s a c m ch
 
-    to-written : Changed (r .capacity) r n (some (new-record r n isn)) (written r isn n)
-    to-written = written-changed (r .capacity) r n (k .sized .shape) (aim r n (k .sized .shape) (k .marks-sound) a c) (holding-here lent n j r p s a c)
+    to-written : Changed (r .capacity) lent r n (some (new-record r n isn)) (written r isn n)
+    to-written = written-changed (r .capacity) lent r n (aim r n (k .sized .shape) (k .marks-sound) a c) (holding-here lent n j r p s a c)
 
-    to-erased : Changed (r .capacity) r n none (erased r isn n)
-    to-erased = erased-changed (r .capacity) r n (k .sized .shape) (aim r n (k .sized .shape) (k .marks-sound) a c) (holding-here lent n j r p s a c)
+    to-erased : Changed (r .capacity) lent r n none (erased r isn n)
+    to-erased = erased-changed (r .capacity) lent r n (aim r n (k .sized .shape) (k .marks-sound) a c) (holding-here lent n j r p s a c)
 
   -- N1 keeps its mark
   marked-last : (e : r .command ≡ N1) → Passed (r .capacity) lent (with-last r (found r n) isn (written r isn n)) (changed (r .call) isn (add (r .format) (r .buffer)) (begun u j))

@@ -6,10 +6,10 @@ use mathlib.Core.Path.{_≡_, refl, sym, _∙_}
 use mathlib.Core.Bool.{true, false}
 use mathlib.Core.List.{List, [], _∷_}
 use lib.Dec.{eqb}
-use lib.ListN.{length, drop, replicate}
+use lib.ListN.{length, replicate}
 use borrow.Author.Tests.{le-leb, ltb-false, not-false}
 use Rattle.lists.specs.Tests.{within, or-left, or-right, Outcome, holds, fails, outcome}
-use Rattle.definition.specs.Table.{max-files, file-count, files-of}
+use Rattle.definition.specs.Table.{max-files, file-count, files-of, no-definition}
 use Rattle.definition.specs.Shape.{DefinitionShape}
 use Rattle.definition.specs.declared.File.{File}
 use Rattle.definition.specs.declared.Definition.{Definition}
@@ -37,6 +37,8 @@ use Rattle.history.specs.Journal.{new-journal}
 use Rattle.history.specs.Updates.{updates, logged}
 use Rattle.history.specs.UpdateLaws.{update-laws}
 use Rattle.history.specs.ReadShape.{read-shape}
+use Rattle.history.specs.Lent.{Lent, Alike}
+use Rattle.history.specs.Sizes.{alike-self}
 use Rattle.history.specs.Kept.{seen, ground-of, Kept, Rested}
 
 -- ---- no buffer too short
@@ -67,20 +69,27 @@ no-marks zero (f ∷ fs) = refl
 no-marks (suc n) (f ∷ fs) = rw (le-leb 0 (f .«max_isn») (omega arith)) (no-marks n fs)
 
 module _ (capacity : ℕ) (store queue images : List ℕ) where
+  abbrev lent : Definition → Lent
+  lent d = record { definition = d; store = store; queue = queue; images = images }
+
+  fresh-alike : (d : Definition) → DefinitionShape d → store-size d ≤ length store → Alike (store-size d) (fresh-store d store) store
+  fresh-alike d s room = record { same-length = fresh-store-length d s store room; same-past = fresh-store-past d s store room }
+
   -- the nucleus that a set-up leaves
   abbrev started : Definition → Nucleus
   started d = record { state = fresh-state d; store = fresh-store d store; queue = queue; images = images }
 
   -- ---- a fresh nucleus has what is kept
   module _ (d : Definition) (s : DefinitionShape d) (v : valid d ≡ true) (long : Long d capacity store queue images) where
-    none-seen : Invariant (ground-of store (started d)) (seen store (started d)) (logged (new-journal .changes))
+    none-seen : Invariant (ground-of (lent d) (started d)) (seen (lent d) (started d)) (logged (new-journal .changes))
     unfolding begin queue-of entries
     none-seen = kept-begin (ground d (updates d) store) (laws d s v (updates d) (update-laws d s v) store)
 
-    kept-started : Kept capacity store (started d) new-journal
+    kept-started : Kept capacity (lent d) (started d) new-journal
     unfolding entries repeated
     kept-started = record {
       sized = record {
+        same-table = refl;
         shape = s;
         valid = v;
         capacity-sound = long .capacity-sound;
@@ -92,6 +101,7 @@ module _ (capacity : ℕ) (store queue images : List ℕ) where
           each-known = refl;
           single = refl;
         };
+        past = record { store-past = fresh-alike d s (long .store-room); queue-past = alike-self capacity queue; images-past = alike-self (capacity * image-length d) images };
       };
       people = record { user-count = refl; users-sound = refl; entries-active = refl };
       marks-sound = no-marks max-files (files-of d);
@@ -100,12 +110,11 @@ module _ (capacity : ℕ) (store queue images : List ℕ) where
       invariant = none-seen;
     }
 
-  -- lent and left: queue and images, the store's length, and its bytes past the table's size
+  -- lent and left: queue and images, and the store but for the table's bytes
   pub record Untouched (n : Nucleus) : Type 0 where
     pub queue-kept : n .queue ≡ queue
     pub images-kept : n .images ≡ images
-    pub store-length : length (n .store) ≡ length store
-    pub store-past : drop (store-size (n .state .definition)) (n .store) ≡ drop (store-size (n .state .definition)) store
+    pub store-past : Alike (store-size (n .state .definition)) (n .store) store
 
   -- how a set-up ends: with the table, or with nothing set up
   data Ended (d : Definition) : SetUp → Type 0 where
@@ -149,13 +158,8 @@ module _ (capacity : ℕ) (store queue images : List ℕ) where
     set-up-touches = go set-up-ended
       where
         go : {r : SetUp} → Ended d r → Untouched (r .nucleus)
-        go (done v long) = record {
-          queue-kept = refl;
-          images-kept = refl;
-          store-length = fresh-store-length d (read-shape table) store (long .store-room);
-          store-past = fresh-store-past d (read-shape table) store (long .store-room);
-        }
-        go (undone cause other) = record { queue-kept = refl; images-kept = refl; store-length = refl; store-past = refl }
+        go (done v long) = record { queue-kept = refl; images-kept = refl; store-past = fresh-alike d (read-shape table) (long .store-room) }
+        go (undone cause other) = record { queue-kept = refl; images-kept = refl; store-past = alike-self (store-size no-definition) store }
 
     -- ---- after a set-up that answered 0
     module _ (good : set-up capacity store queue images table .response ≡ Good) where
@@ -170,8 +174,8 @@ module _ (capacity : ℕ) (store queue images : List ℕ) where
           go (done v long) e = h v long
           go (undone cause other) e = absurd (other e)
 
-      pub kept-set-up : Kept capacity store n new-journal
-      kept-set-up = by-started (λ m. Kept capacity store m new-journal) (kept-started d (read-shape table))
+      pub kept-set-up : Kept capacity (lent d) n new-journal
+      kept-set-up = by-started (λ m. Kept capacity (lent d) m new-journal) (kept-started d (read-shape table))
 
       pub rested-set-up : Rested n
       rested-set-up = by-started Rested (λ v long. refl)

@@ -1,14 +1,11 @@
 -- What is kept makes a state well made and its lent buffers long enough: no call of a list answers 11 or 12.
 -- Assumes nothing.
-use Prim.Native.Nat.{ℕ, _*_, _≤_, _<_}
-use native.Mathlib.Omega.{arith}
-use mathlib.Core.Path.{_≡_, refl, sym, ap, _∙_}
-use mathlib.Core.Bool.{Bool, true, false, not, _&&_, _||_}
-use mathlib.Core.List.{List}
-use lib.Dec.{leb, ltb}
+use Prim.Native.Nat.{ℕ, _*_, _<_}
+use mathlib.Core.Path.{_≡_}
+use mathlib.Core.Bool.{true, false}
 use lib.ListN.{length, getD}
 use borrow.Author.Tests.{le-leb, le-ltb}
-use Rattle.lists.specs.Tests.{Outcome, holds, fails, outcome, within, and-left, and-right}
+use Rattle.lists.specs.Tests.{Outcome, holds, fails, outcome}
 use Rattle.lists.specs.Folds.{all, all-at, each-at}
 use Rattle.definition.specs.declared.Definition.{Definition}
 use Rattle.layout.specs.Layout.{store-size, image-length, place}
@@ -19,12 +16,14 @@ use Rattle.entries.specs.declared.Entry.{Entry}
 use Rattle.ground.specs.Keys.{isn-bound, key, file-of-key, isn-of-key, known, known-at}
 use Rattle.ground.specs.Queue.{entry-known}
 use Rattle.ground.specs.Reading.{entries-small}
-use Rattle.nucleus.specs.Nucleus.{Nucleus, max-users, max-capacity, entries-of}
+use Rattle.nucleus.specs.Nucleus.{Nucleus, entries-of}
 use Rattle.nucleus.specs.WellMade.{too-short, within-file, entry-made, user-made, well-made}
 use Rattle.nucleus.specs.declared.User.{User}
+use Rattle.history.specs.Lists.{all-implies, all-index}
 use Rattle.history.specs.Journal.{Journal}
+use Rattle.history.specs.Lent.{Lent}
 use Rattle.history.specs.Kept.{Kept, definition-of, user-sound, entry-active}
-use Rattle.history.specs.People.{active-sound, all-implies, all-index}
+use Rattle.history.specs.People.{active-sound}
 
 -- an entry of the table is within its file
 within-of-known : (d : Definition) (file isn : ℕ) → isn < isn-bound → known d (key file isn) ≡ true → within-file d (place d file) isn ≡ true
@@ -42,7 +41,7 @@ made-of-sound clock u h = go (outcome (u .active))
     go (holds a) = let s = active-sound clock u h a in rw (a, s .session, le-leb (u .begun) clock (s .begun))
     go (fails a) = rw a
 
-module _ (capacity : ℕ) (lent : List ℕ) (n : Nucleus) (j : Journal) (k : Kept capacity lent n j) where
+module _ (capacity : ℕ) (lent : Lent) (n : Nucleus) (j : Journal) (k : Kept capacity lent n j) where
   entries-made : all (entry-made (n .state)) (entries-of n) ≡ true
   entries-made = all-index (entry-made (n .state)) no-entry (entries-of n) here
     where

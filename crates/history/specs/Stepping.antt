@@ -1,48 +1,47 @@
 -- One call, from its first row to its effect: what is kept stays so, nobody is overdue, and the journal is told the same.
 -- Assumes nothing.
-use Prim.Native.Nat.{ℕ, _-_, _≤_, _<_}
-use mathlib.Core.Path.{_≡_, refl, sym, ap, _∙_}
+use Prim.Native.Nat.{ℕ, _-_, _≤_}
+use mathlib.Core.Path.{_≡_, refl, ap, _∙_}
 use mathlib.Core.Bool.{Bool, true, false, not, _&&_, _||_}
 use mathlib.Core.List.{List, [], _∷_}
 use mathlib.Core.Option.{Option, none, some}
-use lib.Dec.{eqb, ltb}
+use lib.Dec.{eqb}
 use lib.ListN.{set}
 use lib.Seq.{set-getD}
-use borrow.Author.Tests.{eqb-true, not-true, not-false}
-use Rattle.lists.specs.Tests.{and-false, cond, Outcome, holds, fails, outcome, within, within-least, within-most, not-both, and-left, and-right}
-use Rattle.lists.specs.Folds.{any, all}
+use borrow.Author.Tests.{eqb-true, not-true}
+use Rattle.lists.specs.Tests.{cond, Outcome, holds, fails, outcome, within, within-least, within-most, not-both, and-left, and-right}
 use Rattle.lists.specs.Sift.{sift}
-use Rattle.ground.specs.Keys.{isn-bound}
 use Rattle.nucleus.specs.Commands.{command-of, one-of, has-option}
-use Rattle.nucleus.specs.Users.{opening, opened, marked, is-due}
+use Rattle.nucleus.specs.Users.{opened, marked, is-due}
 use Rattle.nucleus.specs.Responses.{number}
 use Rattle.nucleus.specs.Nucleus.{Nucleus, Request, Result, max-users, user-of, change-user}
 use Rattle.nucleus.specs.Clock as nucleus
 use Rattle.nucleus.specs.Clock.{backed-out}
-use Rattle.nucleus.specs.Rows.{row, first-cause, rows-first, rows-after-clock, rows-last, understood, overdue-mark, ends-active}
+use Rattle.nucleus.specs.Rows.{row, first-cause, rows-first, rows-last, understood, overdue-mark, ends-active}
 use Rattle.nucleus.specs.Effects.{effect}
-use Rattle.nucleus.specs.Step.{unless, refusal, perform, told, serve, request, serve-command, step}
+use Rattle.nucleus.specs.Step.{unless, refusal, perform, serve, request, serve-command, step}
 use Rattle.nucleus.specs.declared.Command.{Command}
 use Rattle.nucleus.specs.declared.Command.the-variants.{Op, Cl}
 use Rattle.nucleus.specs.declared.Call.{Call}
 use Rattle.nucleus.specs.declared.Response.{Response}
 use Rattle.nucleus.specs.declared.Response.the-variants.{BackedOut, CommandUnknown, UserUnknown}
 use Rattle.nucleus.specs.declared.User.{User}
+use Rattle.history.specs.Lists.{all-implies, sift-all}
 use Rattle.history.specs.Journal as journal
-use Rattle.history.specs.Journal.{Journal, Change, new-member, member, strikes, struck, is-early, answered, fed}
-use Rattle.history.specs.Run.{Given, World, result, called}
-use Rattle.history.specs.Kept.{Kept, Rested, definition-of, user-sound, is-active, change-sound, member-of, one-of-users}
+use Rattle.history.specs.Journal.{Journal, Change, new-member, member, strikes, struck, is-early, fed}
+use Rattle.history.specs.Statements.{unusable}
+use Rattle.history.specs.Lent.{Lent}
+use Rattle.history.specs.Kept.{Kept, user-sound, change-sound, member-of}
 use Rattle.history.specs.Accepted.{accepted, is-cause}
-use Rattle.history.specs.People.{all-implies, active-sound, sound-idle, user-own, member-is}
+use Rattle.history.specs.People.{change-active, active-sound, sound-idle, user-own, member-is}
 use Rattle.history.specs.Keeping.{kept-like}
-use Rattle.history.specs.Ends.{kept-backed-out}
 use Rattle.history.specs.Passing.{Passed, user-known, passed-clock}
 use Rattle.history.specs.Standing.{well-made-kept, long-kept}
 use Rattle.history.specs.Performing.{quiet-user, rested-set, idle-quiet, passed-backed-out}
 use Rattle.history.specs.Serving.{plain, first-plain, Ready, Served, served-effect}
 
 -- ---- the rows of 29 and after, and the effect
-module _ (lent : List ℕ) (n : Nucleus) (j : Journal) (r : Request) (p : Passed (r .capacity) lent n j) (y : Ready r n) where
+module _ (lent : Lent) (n : Nucleus) (j : Journal) (r : Request) (p : Passed (r .capacity) lent n j) (y : Ready r n) where
   -- a refusal that is neither 0 nor 9 tells the journal nothing but the clock
   refused-plain : (c : Response) → plain c ≡ true → Served lent r j (r .command) (refusal (r .buffer) n c)
   refused-plain c h =
@@ -60,20 +59,13 @@ module _ (lent : List ℕ) (n : Nucleus) (j : Journal) (r : Request) (p : Passed
       go (some c) e = refused-plain c (first-plain (rows-last r n) refl c e)
 
 -- ---- a user in no transaction has nothing to strike
-sift-all : {A : Type 0} (p : A → Bool) (xs : List A) → all p xs ≡ true → sift p xs ≡ xs
-sift-all p [] h = refl
-sift-all p (x ∷ xs) h = rw (and-left (p x) (all p xs) h) (ap (λ l. x ∷ l) (sift-all p xs (and-right (p x) (all p xs) h)))
-
-module _ (capacity : ℕ) (lent : List ℕ) (n : Nucleus) (j : Journal) (k : Kept capacity lent n j) (u : ℕ) (idle : user-of n u .active ≡ false) where
+module _ (capacity : ℕ) (lent : Lent) (n : Nucleus) (j : Journal) (k : Kept capacity lent n j) (u : ℕ) (idle : user-of n u .active ≡ false) where
   not-struck : (c : Change) → change-sound (n .state .users) c ≡ true → not (strikes u c) ≡ true
   not-struck c h = go (outcome (c .uncommitted)) (outcome (eqb (c .user) u))
     where
-      small : ltb (c .isn) isn-bound ≡ true
-      small = and-left (ltb (c .isn) isn-bound) (not (c .uncommitted) || is-active (n .state .users) (c .user)) h
-
       go : Outcome (c .uncommitted) → Outcome (eqb (c .user) u) → not (strikes u c) ≡ true
       go (holds o) (holds t) =
-          let a : is-active (n .state .users) (c .user) ≡ true = rw (small, o) at h in
+          let a = change-active (n .state .users) c h o in
           not-both (user-of n u .active) (and-right (within 1 max-users u) (user-of n u .active) (rw (eqb-true (c .user) u t) at a)) idle
       go (holds o) (fails t) = rw (o, t)
       go (fails o) t = rw o
@@ -92,7 +84,7 @@ module _ (capacity : ℕ) (lent : List ℕ) (n : Nucleus) (j : Journal) (k : Kep
       changes = sift-all (λ c. not (strikes u c)) (j .changes) (all-implies (change-sound (n .state .users)) (λ c. not (strikes u c)) not-struck (j .changes) (k .told .changes-sound))
 
 -- ---- the rows of 9, and the session that opens
-module _ (lent : List ℕ) (n : Nucleus) (j : Journal) (r : Request) (p : Passed (r .capacity) lent n j)
+module _ (lent : Lent) (n : Nucleus) (j : Journal) (r : Request) (p : Passed (r .capacity) lent n j)
     (least : 1 ≤ r .call .user) (most : r .call .user ≤ max-users) (option : has-option (r .command) (r .call .option) ≡ true) where
   abbrev u : ℕ
   u = r .call .user
@@ -204,13 +196,9 @@ module _ (lent : List ℕ) (n : Nucleus) (j : Journal) (r : Request) (p : Passed
       go (fails o) (fails e) = rw (o, e) (performed lent m j r passed-session (ready o (λ ends. rw ends at e)))
 
 -- ---- a call
-abbrev pub not-of-list : ℕ → Bool
-not-of-list response = any (eqb response) (10 ∷ 11 ∷ 12 ∷ [])
-
-pub record Stepped (capacity : ℕ) (lent : List ℕ) (call : Call) (format buffer : List ℕ) (j : Journal) (x : Result) : Type 0 where
+pub record Stepped (capacity : ℕ) (lent : Lent) (call : Call) (format buffer : List ℕ) (j : Journal) (x : Result) : Type 0 where
   pub passed : Passed capacity lent (x .nucleus) (fed call format buffer (number (x .answer .response)) (x .answer .isn) j)
-  -- no call of a list answers 10, 11 or 12
-  pub of-list : not-of-list (number (x .answer .response)) ≡ false
+  pub usable : unusable (number (x .answer .response)) ≡ false
 
 first-three : (a b c more : Bool) → (a || (b || (c || more))) ≡ false → (a || (b || (c || false))) ≡ false
 first-three true b c more h = h
@@ -218,14 +206,14 @@ first-three false true c more h = h
 first-three false false true more h = h
 first-three false false false more h = refl
 
-early-of-list : (response : ℕ) → is-early response ≡ false → not-of-list response ≡ false
-early-of-list response h = first-three (eqb response 10) (eqb response 11) (eqb response 12) _ h
+early-usable : (response : ℕ) → is-early response ≡ false → unusable response ≡ false
+early-usable response h = first-three (eqb response 10) (eqb response 11) (eqb response 12) _ h
 
-module _ (capacity : ℕ) (lent : List ℕ) (n : Nucleus) (j : Journal) (p : Passed capacity lent n j) (call : Call) (format buffer : List ℕ) where
+module _ (capacity : ℕ) (lent : Lent) (n : Nucleus) (j : Journal) (p : Passed capacity lent n j) (call : Call) (format buffer : List ℕ) where
   -- 22 and 72: all is as it was
-  refused-first : (c : Response) → is-early (number c) ≡ true → not-of-list (number c) ≡ false → Stepped capacity lent call format buffer j (refusal buffer n c)
+  refused-first : (c : Response) → is-early (number c) ≡ true → unusable (number c) ≡ false → Stepped capacity lent call format buffer j (refusal buffer n c)
   unfolding fed
-  refused-first c early of = record { passed = rw early p; of-list = of }
+  refused-first c early of = record { passed = rw early p; usable = of }
 
   -- past the clock
   served-known : (c : Command) → command-of (call .command) ≡ some c → has-option c (call .option) ≡ true → within 1 max-users (call .user) ≡ true
@@ -236,7 +224,7 @@ module _ (capacity : ℕ) (lent : List ℕ) (n : Nucleus) (j : Journal) (p : Pas
       let s = served lent (nucleus.clocked (call .clock) n) (journal.clocked (call .clock) j) r (passed-clock capacity lent (call .clock) n j (p .kept))
       (within-least 1 max-users (call .user) user) (within-most 1 max-users (call .user) user) option
       in
-      record { passed = rw (s .not-early, known) (s .passed); of-list = early-of-list (number (serve r (nucleus.clocked (call .clock) n) .answer .response)) (s .not-early) }
+      record { passed = rw (s .not-early, known) (s .passed); usable = early-usable (number (serve r (nucleus.clocked (call .clock) n) .answer .response)) (s .not-early) }
 
   pub stepped : Stepped capacity lent call format buffer j (step capacity call format buffer n)
   unfolding step rows-first

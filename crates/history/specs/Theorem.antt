@@ -1,33 +1,37 @@
--- Requirement 3, proved; and with it what else holds of every list of calls.
+-- Requirement 3 and the statements beside it, proved.
 -- Assumes nothing.
 use Prim.Native.Nat.{ℕ, _-_, _≤_}
 use native.Mathlib.Omega.{arith}
-use mathlib.Core.Path.{_≡_, refl, ap, subst, _∙_}
+use mathlib.Core.Path.{_≡_, refl, sym, ap, subst, _∙_}
 use mathlib.Core.Logic.{_≢_}
-use mathlib.Core.Bool.{Bool, true, false, not, _&&_}
-use mathlib.Core.List.{List, [], _∷_}
-use mathlib.Core.Option.{Option, none, some}
+use mathlib.Core.Bool.{true, false, not}
+use mathlib.Core.List.{List, [], _∷_, map}
+use mathlib.Core.Option.{none}
 use lib.Dec.{eqb}
 use lib.Seq.{getD-set-other}
 use borrow.Author.Tests.{eqb-false, not-true}
-use Rattle.lists.specs.Tests.{cond, Outcome, holds, fails, outcome, within, within-least, within-most, and-left, and-right, or-left, or-right}
-use Rattle.lists.specs.Folds.{any, all, distinct, Each}
+use Rattle.lists.specs.Tests.{within, within-least, and-left, and-right, or-left, or-right}
+use Rattle.lists.specs.Folds.{any, all, distinct}
 use Rattle.nucleus.specs.Commands.{command-of}
 use Rattle.nucleus.specs.Responses.{number}
 use Rattle.nucleus.specs.Nucleus.{Nucleus, Result, max-users}
 use Rattle.nucleus.specs.Step.{step, set-up}
 use Rattle.nucleus.specs.declared.Response.the-variants.{Good}
-use Rattle.history.specs.Journal as journal
-use Rattle.history.specs.Journal.{Journal, member, new-member, started, in-transaction, struck, fed, new-journal}
-use Rattle.history.specs.Run.{Given, World, result, called, run, begin, bt, back-outs, struck-all}
-use Rattle.history.specs.Claim.{Chosen, NeverWas, Requirement3}
+use Rattle.history.specs.Journal.{Journal, member, new-member, started, in-transaction, struck, fed}
+use Rattle.history.specs.Run.{Given, World, called, run, begin, bt, back-outs, struck-all}
+use Rattle.history.specs.Claim.{Chosen, Requirement3}
+use Rattle.history.specs.Statements.{unusable, NeverUnusable, StaysUsable, BackOutsAccepted, BackOutsAreCalls, NeverTouched}
+use Rattle.history.specs.Feeding.{Answered, answers}
+use Rattle.history.specs.Lent.{Lent, lent-at}
+use Rattle.history.specs.Kept.{Kept}
 use Rattle.history.specs.Passing.{Passed}
+use Rattle.history.specs.Standing.{well-made-kept, long-kept}
 use Rattle.history.specs.SetUpKept.{kept-set-up, rested-set-up}
-use Rattle.history.specs.Stepping.{Stepped, stepped}
+use Rattle.history.specs.Stepping.{stepped}
 use Rattle.history.specs.Resting.{journal-rests, bt-good, inside}
 use Rattle.history.specs.Records.{same-records, unique-values}
 
-module _ (capacity : ℕ) (lent : List ℕ) where
+module _ (capacity : ℕ) (lent : Lent) where
   -- ---- a list of calls
   pub passed-run : (gs : List Given) (w : World) → Passed capacity lent (w .nucleus) (w .journal)
       → Passed capacity lent (run capacity gs w .nucleus) (run capacity gs w .journal)
@@ -35,19 +39,26 @@ module _ (capacity : ℕ) (lent : List ℕ) where
   passed-run [] w p = p
   passed-run (g ∷ gs) w p = passed-run gs (called capacity g w) (stepped capacity lent (w .nucleus) (w .journal) p (g .call) (g .format) (g .buffer) .passed)
 
+  pub usable-run : (gs : List Given) (w : World) → Passed capacity lent (w .nucleus) (w .journal) → any (λ (a : Answered). unusable (a .response)) (answers capacity gs w) ≡ false
+  usable-run [] w p = refl
+  usable-run (g ∷ gs) w p =
+      let s = stepped capacity lent (w .nucleus) (w .journal) p (g .call) (g .format) (g .buffer) in
+      rw (s .usable) (usable-run gs (called capacity g w) (s .passed))
+
   -- ---- one BT of a user whom the journal has in a transaction
   module _ (n : Nucleus) (j : Journal) (p : Passed capacity lent n j) (u : ℕ) (t : in-transaction j u ≡ true) where
-    fed-bt : (isn : ℕ) → fed (bt u .call) [] [] (number Good) isn j ≡ struck u j
-    unfolding fed command-of
-    fed-bt isn = ap (struck u) (journal-rests capacity lent n j p)
+    abbrev x : Result
+    x = step capacity (bt u .call) [] [] n
 
-    passed-bt : Passed capacity lent (step capacity (bt u .call) [] [] n .nucleus) (struck u j)
-    passed-bt =
-        let x = step capacity (bt u .call) [] [] n in
-        let told : fed (bt u .call) [] [] (number (x .answer .response)) (x .answer .isn) j ≡ struck u j =
-        ap (λ c. fed (bt u .call) [] [] (number c) (x .answer .isn) j) (bt-good capacity lent n j p u t) ∙ fed-bt (x .answer .isn)
-        in
-        subst (λ i. Passed capacity lent (x .nucleus) i) told (stepped capacity lent n j p (bt u .call) [] [] .passed)
+    abbrev fed-bt : Journal
+    fed-bt = fed (bt u .call) [] [] (number (x .answer .response)) (x .answer .isn) j
+
+    struck-bt : fed-bt ≡ struck u j
+    unfolding fed command-of
+    struck-bt = ap (λ c. fed (bt u .call) [] [] (number c) (x .answer .isn) j) (bt-good capacity lent n j p u t) ∙ ap (struck u) (journal-rests capacity lent n j p)
+
+    passed-bt : Passed capacity lent (x .nucleus) (struck u j)
+    passed-bt = subst (λ i. Passed capacity lent (x .nucleus) i) struck-bt (stepped capacity lent n j p (bt u .call) [] [] .passed)
 
   -- another user is in his transaction still
   still-in : (j : Journal) (u v : ℕ) → 1 ≤ u → eqb u v ≡ false → in-transaction j v ≡ true → in-transaction (struck u j) v ≡ true
@@ -66,28 +77,98 @@ module _ (capacity : ℕ) (lent : List ℕ) where
   )
 
   -- ---- any choice of them, in any order
+  module _ (n : Nucleus) (j : Journal) (p : Passed capacity lent n j) (u : ℕ) (us : List ℕ) (c : Chosen (u ∷ us) j) where
+    first-in : in-transaction j u ≡ true
+    first-in = and-left (in-transaction j u) (all (in-transaction j) us) (c .active)
+
+    chosen-left : Chosen us (struck u j)
+    chosen-left =
+        let once = not-true (any (eqb u) us) (and-left (not (any (eqb u) us)) (distinct eqb us) (c .different)) in
+        record {
+          different = and-right (not (any (eqb u) us)) (distinct eqb us) (c .different);
+          active =
+              all-still j u (within-least 1 max-users u (inside capacity lent n j p u first-in)) us once (and-right (in-transaction j u) (all (in-transaction j) us) (c .active));
+        }
+
   pub passed-back-outs : (us : List ℕ) (n : Nucleus) (j : Journal) → Passed capacity lent n j → Chosen us j → Passed capacity lent (back-outs capacity us n) (struck-all us j)
   passed-back-outs [] n j p c = p
   passed-back-outs (u ∷ us) n j p c =
-      let t = and-left (in-transaction j u) (all (in-transaction j) us) (c .active) in
-      let others = and-right (in-transaction j u) (all (in-transaction j) us) (c .active) in
-      let once = not-true (any (eqb u) us) (and-left (not (any (eqb u) us)) (distinct eqb us) (c .different)) in
-      passed-back-outs us (step capacity (bt u .call) [] [] n .nucleus) (struck u j) (passed-bt n j p u t)
-      (record {
-        different = and-right (not (any (eqb u) us)) (distinct eqb us) (c .different);
-        active = all-still j u (within-least 1 max-users u (inside capacity lent n j p u t)) us once others;
-      })
+      passed-back-outs us (step capacity (bt u .call) [] [] n .nucleus) (struck u j) (passed-bt n j p u (first-in n j p u us c)) (chosen-left n j p u us c)
+
+  pub accepted-back-outs : (us : List ℕ) (w : World) → Passed capacity lent (w .nucleus) (w .journal) → Chosen us (w .journal)
+      → all (λ (a : Answered). eqb (a .response) 0) (answers capacity (map bt us) w) ≡ true
+  accepted-back-outs [] w p c = refl
+  accepted-back-outs (u ∷ us) w p c =
+      let n = w .nucleus in
+      let j = w .journal in
+      let t = first-in n j p u us c in
+      let zero : eqb (number (step capacity (bt u .call) [] [] n .answer .response)) 0 ≡ true = ap (λ c. eqb (number c) 0) (bt-good capacity lent n j p u t) in
+      rw zero
+      (accepted-back-outs us (called capacity (bt u) w) (stepped capacity lent n j p (bt u .call) [] [] .passed)
+      (subst (λ i. Chosen us i) (sym (struck-bt n j p u t)) (chosen-left n j p u us c)))
+
+-- ---- after a set-up that answers 0
+module _ (capacity : ℕ) (table store queue images : List ℕ) (calls : List Given) (good : set-up capacity store queue images table .response ≡ Good) where
+  abbrev lent : Lent
+  lent = lent-at table store queue images
+
+  abbrev start : World
+  start = begin capacity store queue images table
+
+  abbrev end : World
+  end = run capacity calls start
+
+  passed-start : Passed capacity lent (start .nucleus) (start .journal)
+  passed-start = record {
+    kept = kept-set-up capacity store queue images table good;
+    rested = rested-set-up capacity store queue images table good;
+  }
+
+  passed-end : Passed capacity lent (end .nucleus) (end .journal)
+  passed-end = passed-run capacity lent calls start passed-start
+
+  module _ (us : List ℕ) (chosen : Chosen us (end .journal)) where
+    kept-end : Kept capacity lent (back-outs capacity us (end .nucleus)) (struck-all us (end .journal))
+    kept-end = passed-back-outs capacity lent us (end .nucleus) (end .journal) passed-end chosen .kept
 
 -- ---- the claim
 pub backed-out-never-was : Requirement3
 backed-out-never-was capacity table store queue images calls us good chosen =
-    let w = begin capacity store queue images table in
-    let start : Passed capacity store (w .nucleus) new-journal = record {
-      kept = kept-set-up capacity store queue images table good;
-      rested = rested-set-up capacity store queue images table good;
-    } in
-    let end = passed-back-outs capacity store us (run capacity calls w .nucleus) (run capacity calls w .journal) (passed-run capacity store calls w start) chosen in
+    let lent = lent-at table store queue images in
+    let w = run capacity calls (begin capacity store queue images table) in
+    let k = kept-end capacity table store queue images calls good us chosen in
     record {
-      same-records = same-records capacity store (back-outs capacity us (run capacity calls w .nucleus)) (struck-all us (run capacity calls w .journal)) (end .kept);
-      unique-values = unique-values capacity store (back-outs capacity us (run capacity calls w .nucleus)) (struck-all us (run capacity calls w .journal)) (end .kept);
+      same-records = same-records capacity lent (back-outs capacity us (w .nucleus)) (struck-all us (w .journal)) k;
+      unique-values = unique-values capacity lent (back-outs capacity us (w .nucleus)) (struck-all us (w .journal)) k;
     }
+
+-- ---- and the statements beside it
+pub never-unusable : NeverUnusable
+never-unusable capacity table store queue images calls good =
+    usable-run capacity (lent-at table store queue images) calls (begin capacity store queue images table) (passed-start capacity table store queue images calls good)
+
+pub stays-usable : StaysUsable
+stays-usable capacity table store queue images calls good =
+    let lent = lent-at table store queue images in
+    let w = run capacity calls (begin capacity store queue images table) in
+    let k = passed-end capacity table store queue images calls good .kept in
+    record {
+      same-table = k .sized .same-table;
+      made = well-made-kept capacity lent (w .nucleus) (w .journal) k;
+      long = rw (k .sized .same-table) at (long-kept capacity lent (w .nucleus) (w .journal) k);
+    }
+
+pub back-outs-accepted : BackOutsAccepted
+back-outs-accepted capacity table store queue images calls us good chosen =
+    accepted-back-outs capacity (lent-at table store queue images) us (run capacity calls (begin capacity store queue images table))
+    (passed-end capacity table store queue images calls good) chosen
+
+pub back-outs-are-calls : BackOutsAreCalls
+unfolding run
+back-outs-are-calls capacity [] w = refl
+back-outs-are-calls capacity (u ∷ us) w = back-outs-are-calls capacity us (called capacity (bt u) w)
+
+pub never-touched : NeverTouched
+never-touched capacity table store queue images calls us good chosen =
+    let s = kept-end capacity table store queue images calls good us chosen .sized in
+    rw (s .same-table) at (s .past)
