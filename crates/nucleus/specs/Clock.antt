@@ -1,8 +1,7 @@
 -- Back-out of a user, and the clock that backs out who is overdue (document 01, 'One call': "the nucleus keeps the greatest it was given and uses
 -- that. Then each user, rising, whose transaction began more than his time limit ago is backed out and marked overdue").
-use Prim.Native.Nat.{ℕ, zero, suc, _+_, _-_, max}
-use mathlib.Core.Bool.{Bool, true}
-use mathlib.Core.List.{List, [], _∷_}
+use Prim.Native.Nat.{ℕ, zero, suc, _+_, max}
+use mathlib.Core.Bool.{true}
 use Rattle.lists.specs.Tests.{cond}
 use Rattle.layout.specs.Layout.{image-length}
 use Rattle.images.specs.Images.{remove-queue, remove-images, remove-count}
@@ -12,7 +11,7 @@ use Rattle.images.specs.declared.Removal.the-variants.{All}
 use Rattle.nucleus.specs.Users.{is-due, ended, marked}
 use Rattle.nucleus.specs.Nucleus.{Nucleus, max-users, with-clock, with-count, with-state, with-store, user-of, change-user}
 
--- the bytes of an image
+-- the greatest width: the bytes of an image
 abbrev pub width-of : Nucleus → ℕ
 width-of n = image-length (n .state .definition)
 

@@ -1,7 +1,7 @@
 -- What each of the thirteen commands does where no row of the response table holds (document 01, 'Hold, change, end').
 use Prim.Native.Nat.{ℕ, _+_, _-_, min}
-use mathlib.Core.Bool.{Bool, true, false}
-use mathlib.Core.List.{List, [], _∷_}
+use mathlib.Core.Bool.{false}
+use mathlib.Core.List.{List}
 use lib.Dec.{eqb}
 use lib.ListN.{length, take}
 use lib.Seq.{sets}
@@ -20,7 +20,7 @@ use Rattle.images.specs.declared.Removal.the-variants.{One, Unchanged, All}
 use Rattle.nucleus.specs.Commands.{option-A}
 use Rattle.nucleus.specs.Users.{max-sequence, set-session, closed, counted, started, ended}
 use Rattle.nucleus.specs.Responses.{good}
-use Rattle.nucleus.specs.Nucleus.{Nucleus, Request, Result, max-et-data, data-at, with-data, with-mark, with-count, with-state, with-store, user-of, change-user, no-data}
+use Rattle.nucleus.specs.Nucleus.{Nucleus, Request, Result, data-at, with-data, with-mark, with-count, with-state, with-store, user-of, change-user}
 use Rattle.nucleus.specs.Clock.{width-of, removed, backed-out}
 use Rattle.nucleus.specs.Target.{held-by, store-with, found, file, part, record-at, holder-of, target-isn}
 use Rattle.nucleus.specs.Rows.{new-record}

@@ -3,10 +3,12 @@
 -- Assumes nothing.
 use Prim.Native.Nat.{ℕ, _*_}
 use mathlib.Core.Path.{_≡_, refl}
-use mathlib.Core.List.{List, [], _∷_}
+use mathlib.Core.List.{List, [], _∷_, map}
+use mathlib.Core.Option.{some}
 use Prim.Native.String.{String}
 use lib.ListN.{replicate}
 use Rattle.lists.specs.Folds.{Each}
+use Rattle.lists.specs.Numbers.{numbers}
 use Rattle.definition.specs.declared.Format.the-variants.{Packed}
 use Rattle.layout.specs.Layout.{record-length, field-offset, file-offset, store-size, image-length, place}
 use Rattle.validity.specs.Validity.{valid, file-valid, field-valid, name-valid}
@@ -22,7 +24,7 @@ use Rattle.images.specs.Closing.{closed}
 use Rattle.images.specs.Images as images
 use Rattle.hold.specs.Hold.{keep-image, settled, first-change-queue, first-change-images, put-back-in, put-back, restore}
 use Rattle.nucleus.specs.Text.{text}
-use Rattle.nucleus.specs.Commands.{command-of, has-option, blank, option-H}
+use Rattle.nucleus.specs.Commands.{commands, place-of, code, command-of, has-option, blank, option-H}
 use Rattle.nucleus.specs.Nucleus.{Nucleus}
 use Rattle.nucleus.specs.WellMade.{too-short, well-made}
 use Rattle.nucleus.specs.Clock.{removed, backed-out, clocked}
@@ -32,6 +34,14 @@ use Rattle.nucleus.specs.Effects.{held, imaged, written, erased, effect-
 use Rattle.nucleus.specs.Step.{perform, serve, step, set-up}
 use Rattle.nucleus.specs.Line.{hexadecimal, line}
 use Rattle.nucleus.specs.declared.Call.{Call}
+
+-- ---- the table of commands: the places are those of the list, and each code is found again
+placed : map place-of commands ≡ numbers 13 1
+placed = refl
+
+decoded : map (λ c. command-of (code c)) commands ≡ map some commands
+unfolding command-of
+decoded = refl
 
 -- ---- a list of calls, each with its buffers, and the lines that it prints
 record Given : Type 0 where

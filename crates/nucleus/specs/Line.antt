@@ -1,7 +1,7 @@
 -- The line that `partycall` prints for a call (document 01, 'The house call list': "response, ISN, quantity, sequence, and after a good L1, L4 or RE
 -- that wrote something the bytes in capital hexadecimal without blanks; one blank stands between these parts").
 use Prim.Native.Nat.{ℕ, zero, suc, _+_, _/_, _%_}
-use mathlib.Core.Bool.{Bool, not, _&&_}
+use mathlib.Core.Bool.{Bool, false, not, _&&_}
 use mathlib.Core.List.{List, [], _∷_, _++_}
 use mathlib.Core.Option.{Option, none, some}
 use lib.Dec.{eqb, ltb}
@@ -32,7 +32,7 @@ hexadecimal [] = []
 hexadecimal (b ∷ bs) = digit (b / 16) ∷ digit (b % 16) ∷ hexadecimal bs
 
 abbrev pub shows : Option Command → Bool
-shows none = one-of [] L1
+shows none = false
 shows (some c) = one-of (L1 ∷ L4 ∷ Re ∷ []) c
 
 -- the bytes that a reading wrote, behind a blank

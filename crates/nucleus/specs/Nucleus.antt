@@ -1,8 +1,6 @@
 -- The nucleus with all that it is lent, and the parts of it that a call reads and changes.
 use Prim.Native.Nat.{ℕ, _-_}
-use mathlib.Core.Bool.{Bool, true, false, _&&_, not}
 use mathlib.Core.List.{List, []}
-use lib.Dec.{eqb}
 use lib.ListN.{getD, set, replicate}
 use Rattle.definition.specs.Table.{max-files}
 use Rattle.entries.specs.Entries.{entries}

@@ -26,7 +26,7 @@ use Rattle.nucleus.specs.WellMade.{too-short, well-made}
 use Rattle.nucleus.specs.Clock.{width-of}
 use Rattle.nucleus.specs.Target.{is-file, is-isn, held-by, held-by-other, changed-in, found, file, part, record-at, holder-of, target, target-isn}
 use Rattle.nucleus.specs.declared.Command.{Command}
-use Rattle.nucleus.specs.declared.Command.the-variants.{Hi, Ri, L1, L4, A1, E1, N1, N2, Et, Bt, Re, Op, Cl}
+use Rattle.nucleus.specs.declared.Command.the-variants.{Hi, Ri, L1, L4, A1, E1, N1, N2, Et, Re, Op, Cl}
 use Rattle.nucleus.specs.declared.Call.{Call}
 use Rattle.nucleus.specs.declared.User.{User}
 use Rattle.nucleus.specs.declared.Response.{Response}

@@ -3,10 +3,10 @@ use Prim.Native.Nat.{ℕ, _*_}
 use mathlib.Core.Bool.{Bool, true, false, not, _&&_, _||_}
 use mathlib.Core.List.{List, [], _∷_}
 use lib.Dec.{leb, ltb}
-use lib.ListN.{length, getD}
+use lib.ListN.{length}
 use Rattle.lists.specs.Tests.{within}
 use Rattle.lists.specs.Folds.{all}
-use Rattle.definition.specs.Table.{file-at, file-count, files-of}
+use Rattle.definition.specs.Table.{file-at, files-of}
 use Rattle.layout.specs.Layout.{store-size, image-length, place}
 use Rattle.validity.specs.Validity.{valid}
 use Rattle.repeats.specs.Repeats.{repeated}
