@@ -126,7 +126,7 @@ module _ (f : File) (s : FileShape f) where
       (ap (sets buffer 0) (read-written ks (places-inside f format) (places-distinct f format t) values content (omega (arith, needed-total f format)) long))
 
 -- ---- a record of nulls
-nulls-length : (gs : List Field) → length (nulls gs) ≡ total field-length gs
+pub nulls-length : (gs : List Field) → length (nulls gs) ≡ total field-length gs
 nulls-length [] = refl
 nulls-length (g ∷ gs) = omega (arith, length-append (null-value (g .format) (g .length)) (nulls gs), null-length (g .format) (g .length), nulls-length gs)
 

@@ -1,13 +1,12 @@
 -- An accepted A1, E1, N1 or N2 is a change that the abstract machine allows: nobody else holds the ISN (145), the record is of the file's width, and
 -- no unique value that it brings is taken (198).
 -- Assumes nothing.
-use Prim.Native.Nat.{ℕ, _<_}
+use Prim.Native.Nat.{ℕ}
 use mathlib.Core.Path.{_≡_, refl, sym, ap, _∙_}
 use mathlib.Core.Bool.{Bool, true, false, not, _&&_, _||_, and-assoc}
 use mathlib.Core.List.{List, [], _∷_}
 use mathlib.Core.Option.{some}
 use lib.Dec.{eqb}
-use borrow.Author.Tests.{leb-false}
 use Rattle.lists.specs.Tests.{eqb-self}
 use Rattle.lists.specs.Folds.{any}
 use Rattle.lists.specs.Sift.{any-sift}
@@ -29,13 +28,14 @@ use Rattle.ground.specs.Ground.{is-unique, uniques}
 use Rattle.ground.specs.Taken.{taken-is}
 use Rattle.nucleus.specs.Commands.{one-of}
 use Rattle.nucleus.specs.Nucleus.{Nucleus, Request}
-use Rattle.nucleus.specs.Target.{held-by-other, file, holder-of, target-isn}
-use Rattle.nucleus.specs.Rows.{held-elsewhere, queue-full, his, new-record, judged as judged-row, is-taken, value-taken}
+use Rattle.nucleus.specs.Target.{file, target-isn}
+use Rattle.nucleus.specs.Rows.{new-record, judged as judged-row, is-taken, value-taken}
 use Rattle.nucleus.specs.declared.Command.the-variants.{Hi, L4, A1, E1, N1, N2}
 use Rattle.history.specs.Updates.{FileUpdate, suits, judged, updates}
 use Rattle.history.specs.Lent.{Lent}
 use Rattle.history.specs.Kept.{definition-of, ground-of, seen}
 use Rattle.history.specs.HoldMoves.{other-seen}
+use Rattle.history.specs.Holding.{holdable-at}
 use Rattle.history.specs.Accepted.{Accepted}
 use Rattle.history.specs.Changes.{Changes, replaces, erases, adds, adds-there, rest-fails, Aim, file-is}
 use Rattle.history.specs.ChangesLogged.{update-of, slot-of, target-slot, old-width, new-width, old-there, applied}
@@ -44,26 +44,12 @@ use Rattle.history.specs.ChangesLogged.{update-of, slot-of, target-slot,
 abbrev pub file-update : (r : Request) → Changes r → FileUpdate
 file-update r c = record { file = r .call .file; update = update-of r c }
 
--- ---- rows of a command that holds
-module _ (r : Request) (n : Nucleus) (a : Accepted r n) (c : Changes r) where
-  holds-record : one-of (Hi ∷ L4 ∷ A1 ∷ E1 ∷ N1 ∷ N2 ∷ []) (r .command) ≡ true
-  holds-record = go c
-    where
-      go : Changes r → one-of (Hi ∷ L4 ∷ A1 ∷ E1 ∷ N1 ∷ N2 ∷ []) (r .command) ≡ true
-      go (replaces e) = rw e
-      go (erases e) = rw e
-      go (adds e) = rw e
-      go (adds-there e) = rw e
-
-  -- 145
-  pub no-other : held-by-other (r .call .user) (holder-of r n (target-isn r n)) ≡ false
-  unfolding held-elsewhere
-  no-other = rest-fails _ _ holds-record (a .mine)
-
-  -- 70: there is room for a new entry
-  pub room-left : his r n ≡ false → n .state .count < r .capacity
-  unfolding queue-full
-  room-left new = leb-false (r .capacity) (n .state .count) (rest-fails (one-of (Hi ∷ L4 ∷ A1 ∷ E1 ∷ N1 ∷ N2 ∷ []) (r .command) && not (his r n)) _ (rw (holds-record, new)) (a .room))
+-- ---- each of the four holds its record
+pub holds-record : (r : Request) → Changes r → one-of (Hi ∷ L4 ∷ A1 ∷ E1 ∷ N1 ∷ N2 ∷ []) (r .command) ≡ true
+holds-record r (replaces e) = rw e
+holds-record r (erases e) = rw e
+holds-record r (adds e) = rw e
+holds-record r (adds-there e) = rw e
 
 permitted : (a b c : Bool) → a ≡ false → b ≡ true → c ≡ false → (not a && b && not c) ≡ true
 permitted a b c h i j = rw (h, i, j)
@@ -102,7 +88,7 @@ module _ (r : Request) (n : Nucleus) (s : DefinitionShape (definition-of n)) (v 
   }
 
   pub nobody-else : machine.held-by-other u k (queue-of d (n .queue) (n .images) (n .state .count)) ≡ false
-  nobody-else = other-seen n capacity made u (r .call .file) isn (t .small) ∙ no-other r n a c
+  nobody-else = other-seen n capacity made u (r .call .file) isn (t .small) ∙ holdable-at r n a (holds-record r c) t .mine
 
   pub may-change : updates d .may change k (get d (n .store) k) ≡ true
   may-change = rw (t .known, number-is, eqb-self (r .call .file)) (go c)

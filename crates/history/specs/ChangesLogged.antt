@@ -6,21 +6,17 @@ use mathlib.Core.Path.{_≡_, refl, _∙_}
 use mathlib.Core.Bool.{Bool, true, false, _&&_}
 use mathlib.Core.List.{List, [], _∷_, append-nil}
 use mathlib.Core.Option.{none, some}
-use lib.ListN.{length, length-append, drop-of-length-le}
+use lib.ListN.{length, drop-of-length-le}
 use lib.Seq.{sets-eq}
 use borrow.Author.Tests.{le-leb, not-false}
 use Rattle.lists.specs.Tests.{cond, or-left}
-use Rattle.lists.specs.Folds.{total}
 use Rattle.definition.specs.Table.{file-at, fields-of}
 use Rattle.definition.specs.Shape.{DefinitionShape}
 use Rattle.definition.specs.declared.Definition.{Definition}
-use Rattle.definition.specs.declared.Field.{Field}
 use Rattle.definition.specs.declared.File.{File}
-use Rattle.layout.specs.Layout.{field-length, record-length, slot-offset, store-size}
-use Rattle.values.specs.Values.{null-value}
-use Rattle.values.specs.Laws.{null-length}
+use Rattle.layout.specs.Layout.{record-length, slot-offset, store-size}
 use Rattle.fields.specs.Fields.{write-fields, nulls, null-record}
-use Rattle.fields.specs.Laws.{write-fields-length, null-record-length}
+use Rattle.fields.specs.Laws.{nulls-length, write-fields-length, null-record-length}
 use Rattle.lists.specs.Parts.{length-piece}
 use Rattle.store.specs.Store.{record-of, file-part}
 use Rattle.store.specs.Laws.{fits-whole}
@@ -53,10 +49,6 @@ slot-of r n (adds e) = some (new-record r n (target-isn r n))
 slot-of r n (adds-there e) = some (new-record r n (target-isn r n))
 
 -- a record of nulls over one that is as wide (`fields`, Laws is the place for it)
-nulls-length : (gs : List Field) → length (nulls gs) ≡ total field-length gs
-nulls-length [] = refl
-nulls-length (g ∷ gs) = omega (arith, length-append (null-value (g .format) (g .length)) (nulls gs), null-length (g .format) (g .length), nulls-length gs)
-
 null-record-is : (f : File) (content : List ℕ) → length content ≡ record-length f → null-record f content ≡ nulls (fields-of f)
 unfolding null-record record-length
 null-record-is f content e =

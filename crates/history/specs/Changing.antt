@@ -26,11 +26,11 @@ use Rattle.history.specs.Logs.{log-change}
 use Rattle.history.specs.Ends.{laws-of}
 use Rattle.history.specs.Passing.{Passed}
 use Rattle.history.specs.HoldMoves.{his-entry, held-definition, held-store, held-same, his-held, seen-held}
-use Rattle.history.specs.Holding.{Serving, Holdable, kept-held, held-active}
+use Rattle.history.specs.Holding.{Serving, Holdable, holdable-at, kept-held, held-active}
 use Rattle.history.specs.Performing.{rested-held}
 use Rattle.history.specs.Changes.{Changes, Aim, aim}
 use Rattle.history.specs.ChangesLogged.{update-of, slot-of}
-use Rattle.history.specs.ChangesAllowed.{file-update, no-other, room-left, machine-applied, change-allowed}
+use Rattle.history.specs.ChangesAllowed.{file-update, holds-record, machine-applied, change-allowed}
 use Rattle.history.specs.ChangesEffect.{Holding, Changed, users-same}
 
 module _ (lent : Lent) (n : Nucleus) (j : Journal) (r : Request) (p : Passed (r .capacity) lent n j) (s : Serving (r .call .user) n) (a : Accepted r n) (c : Changes r) where
@@ -60,7 +60,7 @@ module _ (lent : Lent) (n : Nucleus) (j : Journal) (r : Request) (p : Passed (r 
 
   -- ---- the hold
   pub holdable : Holdable capacity r isn n
-  holdable = record { small = t .small; inside = t .known; mine = no-other r n a c; room = room-left r n a c }
+  holdable = holdable-at r n a (holds-record r c) t
 
   small-user : u < 256
   small-user = omega (arith, s .most)

@@ -63,9 +63,6 @@ module _ (r : Request) (isn : ℕ) (n : Nucleus) where
   abbrev user : ℕ
   user = r .call .user
 
-  abbrev file : ℕ
-  file = r .call .file
-
   -- with the new entry, his transaction begun
   abbrev pub held-anew : Nucleus
   held-anew = change-user user (started (n .state .clock)) (with-entry r isn n)

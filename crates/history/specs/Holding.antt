@@ -3,9 +3,10 @@
 use Prim.Native.Nat.{ℕ, _-_, _≤_, _<_}
 use native.Mathlib.Omega.{arith}
 use mathlib.Core.Path.{_≡_, sym, ap, _∙_}
-use mathlib.Core.Bool.{true, false}
+use mathlib.Core.Bool.{true, false, not, _&&_}
 use mathlib.Core.List.{List, [], _∷_}
 use lib.ListN.{set}
+use borrow.Author.Tests.{leb-false}
 use Rattle.lists.specs.Tests.{within, Outcome, holds, fails, outcome, within-inside, and-right}
 use Rattle.lists.specs.Folds.{all-at, all-append}
 use Rattle.entries.specs.Laws.{no-entry}
@@ -15,8 +16,11 @@ use Rattle.transactions.specs.Theorems.{Invariant, kept-act}
 use Rattle.ground.specs.Keys.{isn-bound, key, known}
 use Rattle.nucleus.specs.Users.{started, with-transaction}
 use Rattle.nucleus.specs.Nucleus.{Nucleus, Request, max-users, user-of, entries-of}
-use Rattle.nucleus.specs.Target.{held-by, held-by-other, holder-of}
+use Rattle.nucleus.specs.Target.{held-by, held-by-other, holder-of, target-isn}
 use Rattle.nucleus.specs.Effects.{held, entry-for}
+use Rattle.nucleus.specs.Rows.{his, held-elsewhere, queue-full}
+use Rattle.nucleus.specs.Commands.{one-of}
+use Rattle.nucleus.specs.declared.Command.the-variants.{Hi, L4, A1, E1, N1, N2}
 use Rattle.nucleus.specs.declared.User.{User}
 use Rattle.history.specs.Journal.{Journal, member, with-member, start-at, begun}
 use Rattle.history.specs.Updates.{logged}
@@ -25,6 +29,8 @@ use Rattle.history.specs.Kept.{Kept, People, definition-of, ground-of, s
 use Rattle.history.specs.People.{sound-active, active-own, member-is}
 use Rattle.history.specs.Keeping.{people-user, told-user, same-member}
 use Rattle.history.specs.Sizes.{sized-append}
+use Rattle.history.specs.Accepted.{Accepted}
+use Rattle.history.specs.Changes.{Aim, rest-fails}
 use Rattle.history.specs.Ends.{laws-of}
 use Rattle.history.specs.Passing.{user-known}
 use Rattle.history.specs.QueueMoves.{queue-seen}
@@ -44,6 +50,17 @@ pub record Holdable (capacity : ℕ) (r : Request) (isn : ℕ) (n : Nucleus) : T
   pub inside : known (definition-of n) (key (r .call .file) isn) ≡ true
   pub mine : held-by-other (r .call .user) (holder-of r n isn) ≡ false
   pub room : held-by (r .call .user) (holder-of r n isn) ≡ false → n .state .count < capacity
+
+-- so is the ISN of an accepted command that holds: rows 145 and 70
+pub holdable-at : (r : Request) (n : Nucleus) → Accepted r n → one-of (Hi ∷ L4 ∷ A1 ∷ E1 ∷ N1 ∷ N2 ∷ []) (r .command) ≡ true → Aim r n
+    → Holdable (r .capacity) r (target-isn r n) n
+unfolding held-elsewhere queue-full
+holdable-at r n a holding t = record {
+  small = t .small;
+  inside = t .known;
+  mine = rest-fails _ _ holding (a .mine);
+  room = λ new. leb-false (r .capacity) (n .state .count) (rest-fails (one-of (Hi ∷ L4 ∷ A1 ∷ E1 ∷ N1 ∷ N2 ∷ []) (r .command) && not (his r n)) _ (rw (holding, new)) (a .room));
+}
 
 module _ (capacity : ℕ) (lent : Lent) (n : Nucleus) (j : Journal) (k : Kept capacity lent n j) (r : Request) (isn : ℕ)
     (s : Serving (r .call .user) n) (h : Holdable capacity r isn n) where

@@ -8,7 +8,7 @@ use mathlib.Core.Logic.{_⊎_, inl, inr}
 use mathlib.Core.Option.{none, some}
 use lib.Dec.{eqb, ltb}
 use lib.ListN.{length}
-use borrow.Author.Tests.{eqb-true, not-false, leb-false}
+use borrow.Author.Tests.{eqb-true, not-false}
 use Rattle.lists.specs.Tests.{and-false, cond, Outcome, holds, fails, outcome, within, not-both, and-left, and-right}
 use Rattle.lists.specs.Folds.{all}
 use Rattle.images.specs.declared.Removal.the-variants.{One, Unchanged}
@@ -17,7 +17,7 @@ use Rattle.nucleus.specs.Responses.{number}
 use Rattle.nucleus.specs.Nucleus.{Nucleus, Request, Result, max-users, max-et-data, user-of}
 use Rattle.nucleus.specs.Target.{is-file, held-by, changed-in, found, file, holder-of, target, target-isn}
 use Rattle.nucleus.specs.Clock.{removed}
-use Rattle.nucleus.specs.Rows.{new-record, Row, first-cause, his, access-refused, file-unknown, isn-invalid, record-length-refused, held-elsewhere, not-held, release-refused, queue-full}
+use Rattle.nucleus.specs.Rows.{new-record, Row, first-cause, his, access-refused, file-unknown, isn-invalid, record-length-refused, not-held, release-refused}
 use Rattle.nucleus.specs.Effects.{held, effect-at, released, written, erased, with-last}
 use Rattle.nucleus.specs.declared.Command.{Command}
 use Rattle.nucleus.specs.declared.Command.the-variants.{Hi, Ri, L1, L4, A1, E1, N1, N2, Et, Bt, Re, Op, Cl}
@@ -28,7 +28,7 @@ use Rattle.history.specs.Kept.{Kept, Rested}
 use Rattle.history.specs.Accepted.{Accepted, is-cause}
 use Rattle.history.specs.Keeping.{kept-mark}
 use Rattle.history.specs.Passing.{Passed}
-use Rattle.history.specs.Holding.{Serving, Holdable}
+use Rattle.history.specs.Holding.{Serving, holdable-at}
 use Rattle.history.specs.Releasing.{kept-release, kept-release-all}
 use Rattle.history.specs.Performing.{passed-held, passed-backed-out, passed-ended, passed-opened, passed-closed}
 use Rattle.history.specs.Changes.{Changes, replaces, erases, adds, adds-there, rest-fails, Aim, aim, file-there, given-inside, aim-at}
@@ -96,16 +96,6 @@ module _ (lent : Lent) (n : Nucleus) (j : Journal) (r : Request) (p : Passed (r 
       let x = file-there (found r n) there in
       aim-at r n (k .sized .shape) (x .0) (x .1) (given-inside r n other valid (a .found))
 
-  -- rows 145 and 70
-  holdable-at : one-of (Hi ∷ L4 ∷ A1 ∷ E1 ∷ N1 ∷ N2 ∷ []) (r .command) ≡ true → Aim r n → Holdable (r .capacity) r isn n
-  unfolding held-elsewhere queue-full
-  holdable-at held-one t = record {
-    small = t .small;
-    inside = t .known;
-    mine = rest-fails _ _ held-one (a .mine);
-    room = λ new. leb-false (r .capacity) (n .state .count) (rest-fails (one-of (Hi ∷ L4 ∷ A1 ∷ E1 ∷ N1 ∷ N2 ∷ []) (r .command) && not (his r n)) _ (rw (held-one, new)) (a .room));
-  }
-
   -- ---- HI and L4
   module _ (c : (r .command ≡ Hi) ⊎ (r .command ≡ L4)) where
     there : is-file (found r n) ≡ true
@@ -135,7 +125,7 @@ module _ (lent : Lent) (n : Nucleus) (j : Journal) (r : Request) (p : Passed (r 
     holds-isn : Passed (r .capacity) lent (held r isn n) (begun u j)
     holds-isn =
         passed-held (r .capacity) lent n j p r isn (serving (as-both (one-of (Op ∷ Cl ∷ L1 ∷ Re ∷ [])) false refl refl))
-        (holdable-at (as-both (one-of (Hi ∷ L4 ∷ A1 ∷ E1 ∷ N1 ∷ N2 ∷ [])) true refl refl) (given-aim (as-both (one-of (N1 ∷ [])) false refl refl) there valid))
+        (holdable-at r n a (as-both (one-of (Hi ∷ L4 ∷ A1 ∷ E1 ∷ N1 ∷ N2 ∷ [])) true refl refl) (given-aim (as-both (one-of (N1 ∷ [])) false refl refl) there valid))
 
   -- ---- RI
   module _ (e : r .command ≡ Ri) where

@@ -5,25 +5,21 @@ use Prim.Native.Nat.{ℕ, _<_}
 use native.Mathlib.Omega.{arith}
 use mathlib.Core.Path.{_≡_, refl, sym, _∙_}
 use mathlib.Core.Bool.{Bool, true, false}
-use mathlib.Core.List.{List, [], _∷_}
 use mathlib.Core.Option.{none, some}
 use lib.Dec.{eqb, ltb}
-use lib.ListN.{length, length-append}
+use lib.ListN.{length}
 use borrow.Author.Tests.{eqb-true, eq-eqb, ltb-true, lt-ltb}
 use Rattle.lists.specs.Tests.{not-both, and-left, and-right}
-use Rattle.lists.specs.Folds.{any, total}
+use Rattle.lists.specs.Folds.{any}
 use Rattle.lists.specs.Sift.{all-keeps, elem-all}
 use Rattle.definition.specs.Table.{field-at, field-count, fields-of}
 use Rattle.definition.specs.Shape.{FileShape, DefinitionShape, file-shape-at}
-use Rattle.definition.specs.declared.Field.{Field}
 use Rattle.definition.specs.declared.File.{File}
 use Rattle.definition.specs.declared.Definition.{Definition}
-use Rattle.layout.specs.Layout.{field-length, record-length}
+use Rattle.layout.specs.Layout.{record-length}
 use Rattle.validity.specs.Validity.{valid}
-use Rattle.values.specs.Values.{null-value}
-use Rattle.values.specs.Laws.{null-length}
 use Rattle.fields.specs.Fields.{write-fields, nulls}
-use Rattle.fields.specs.Laws.{write-fields-length, unnamed-kept}
+use Rattle.fields.specs.Laws.{nulls-length, write-fields-length, unnamed-kept}
 use Rattle.lists.specs.Numbers.{numbers}
 use Rattle.store.specs.Store.{field-value}
 use Rattle.transactions.specs.Slots.{Bytes, Slot}
@@ -36,10 +32,6 @@ use Rattle.history.specs.Journal.{Update, replace, erase, add, apply}
 use Rattle.history.specs.Updates.{FileUpdate, suits, judged, updates}
 
 -- ---- lengths
-nulls-length : (gs : List Field) → length (nulls gs) ≡ total field-length gs
-nulls-length [] = refl
-nulls-length (g ∷ gs) = omega (arith, length-append (null-value (g .format) (g .length)) (nulls gs), null-length (g .format) (g .length), nulls-length gs)
-
 null-width : (f : File) → length (nulls (fields-of f)) ≡ record-length f
 unfolding record-length
 null-width f = nulls-length (fields-of f)
