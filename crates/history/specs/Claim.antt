@@ -14,8 +14,10 @@ use Rattle.lists.specs.Folds.{all, distinct}
 use Rattle.definition.specs.Table.{field-at, field-count}
 use Rattle.definition.specs.declared.FieldOption.the-variants.{Unique}
 use Rattle.definition.specs.declared.File.{File}
+use Rattle.definition.specs.declared.Definition.{Definition}
 use Rattle.layout.specs.Layout.{place}
 use Rattle.store.specs.Store.{field-value}
+use Rattle.reading.specs.Grammar.{read-table}
 use Rattle.nucleus.specs.Nucleus.{Nucleus}
 use Rattle.nucleus.specs.Target.{file-in}
 use Rattle.nucleus.specs.Step.{set-up}
@@ -24,22 +26,22 @@ use Rattle.history.specs.Journal.{Journal, in-transaction, record-told}
 use Rattle.history.specs.Run.{Given, World, run, begin, back-outs, struck-all, record-in}
 
 -- ---- equal records: "Equal are, in each file, the ISNs with a record and its bytes"
-abbrev pub SameRecords : Nucleus → Journal → Type 0
-SameRecords n j = (file isn : ℕ) → record-in n file isn ≡ record-told (n .state .definition) j file isn
+abbrev pub SameRecords : Definition → Nucleus → Journal → Type 0
+SameRecords d n j = (file isn : ℕ) → record-in d n file isn ≡ record-told d j file isn
 
 -- ---- no unique value twice
-abbrev pub file-numbered : Nucleus → ℕ → File
-file-numbered n file = file-in (n .state .definition) (place (n .state .definition) file)
+abbrev pub file-numbered : Definition → ℕ → File
+file-numbered d file = file-in d (place d file)
 
-abbrev pub UniqueValues : Nucleus → Type 0
-UniqueValues n =
+abbrev pub UniqueValues : Definition → Nucleus → Type 0
+UniqueValues d n =
     (file isn other k : ℕ) (a b : List ℕ)
     → isn ≢ other
-    → record-in n file isn ≡ some a
-    → record-in n file other ≡ some b
-    → k < field-count (file-numbered n file)
-    → field-at (file-numbered n file) k .option ≡ Unique
-    → field-value (file-numbered n file) k a ≢ field-value (file-numbered n file) k b
+    → record-in d n file isn ≡ some a
+    → record-in d n file other ≡ some b
+    → k < field-count (file-numbered d file)
+    → field-at (file-numbered d file) k .option ≡ Unique
+    → field-value (file-numbered d file) k a ≢ field-value (file-numbered d file) k b
 
 -- ---- the claim
 -- any choice of users whom the journal has in a transaction, in any order
@@ -47,13 +49,14 @@ pub record Chosen (us : List ℕ) (j : Journal) : Type 0 where
   pub different : distinct eqb us ≡ true
   pub active : all (in-transaction j) us ≡ true
 
-pub record NeverWas (capacity : ℕ) (us : List ℕ) (w : World) : Type 0 where
-  pub same-records : SameRecords (back-outs capacity us (w .nucleus)) (struck-all us (w .journal))
-  pub unique-values : UniqueValues (back-outs capacity us (w .nucleus))
+pub record NeverWas (capacity : ℕ) (d : Definition) (us : List ℕ) (w : World) : Type 0 where
+  pub same-records : SameRecords d (back-outs capacity us (w .nucleus)) (struck-all us (w .journal))
+  pub unique-values : UniqueValues d (back-outs capacity us (w .nucleus))
 
+-- "The book of requirement 3 has the set-up's table": files and fields are those that set-up read
 abbrev pub Requirement3 : Type 0
 Requirement3 =
     (capacity : ℕ) (table store queue images : List ℕ) (calls : List Given) (us : List ℕ)
     → set-up capacity store queue images table .response ≡ Good
     → Chosen us (run capacity calls (begin capacity store queue images table) .journal)
-    → NeverWas capacity us (run capacity calls (begin capacity store queue images table))
+    → NeverWas capacity (read-table table .definition) us (run capacity calls (begin capacity store queue images table))

@@ -2,6 +2,7 @@
 use Prim.Native.Nat.{ℕ}
 use mathlib.Core.List.{List, [], _∷_}
 use mathlib.Core.Option.{Option}
+use Rattle.definition.specs.declared.Definition.{Definition}
 use Rattle.layout.specs.Layout.{place}
 use Rattle.store.specs.Store.{get}
 use Rattle.nucleus.specs.Commands.{code, blank}
@@ -64,8 +65,6 @@ abbrev pub struck-all : List ℕ → Journal → Journal
 struck-all [] j = j
 struck-all (u ∷ us) j = struck-all us (struck u j)
 
--- the record that the nucleus has at a file and ISN, if any
-abbrev pub record-in : Nucleus → ℕ → ℕ → Option (List ℕ)
-record-in n file isn =
-    get (file-in (n .state .definition) (place (n .state .definition) file))
-    (part-in (n .state .definition) (place (n .state .definition) file) (n .store)) isn
+-- the record that the nucleus has at a file and ISN of a table, if any
+abbrev pub record-in : Definition → Nucleus → ℕ → ℕ → Option (List ℕ)
+record-in d n file isn = get (file-in d (place d file)) (part-in d (place d file) (n .store)) isn

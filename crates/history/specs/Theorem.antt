@@ -19,7 +19,7 @@ use Rattle.nucleus.specs.Step.{step, set-up}
 use Rattle.nucleus.specs.declared.Response.the-variants.{Good}
 use Rattle.history.specs.Journal.{Journal, member, new-member, started, in-transaction, struck, fed}
 use Rattle.history.specs.Run.{Given, World, called, run, begin, bt, back-outs, struck-all}
-use Rattle.history.specs.Claim.{Chosen, Requirement3}
+use Rattle.history.specs.Claim.{SameRecords, UniqueValues, Chosen, Requirement3}
 use Rattle.history.specs.Statements.{unusable, NeverUnusable, StaysUsable, BackOutsAccepted, BackOutsAreCalls, NeverTouched}
 use Rattle.history.specs.Feeding.{Answered, answers}
 use Rattle.history.specs.Lent.{Lent, lent-at}
@@ -136,10 +136,12 @@ pub backed-out-never-was : Requirement3
 backed-out-never-was capacity table store queue images calls us good chosen =
     let lent = lent-at table store queue images in
     let w = run capacity calls (begin capacity store queue images table) in
+    let m = back-outs capacity us (w .nucleus) in
+    let j = struck-all us (w .journal) in
     let k = kept-end capacity table store queue images calls good us chosen in
     record {
-      same-records = same-records capacity lent (back-outs capacity us (w .nucleus)) (struck-all us (w .journal)) k;
-      unique-values = unique-values capacity lent (back-outs capacity us (w .nucleus)) (struck-all us (w .journal)) k;
+      same-records = subst (λ d. SameRecords d m j) (k .sized .same-table) (same-records capacity lent m j k);
+      unique-values = subst (λ d. UniqueValues d m) (k .sized .same-table) (unique-values capacity lent m j k);
     }
 
 -- ---- and the statements beside it
