@@ -1,9 +1,10 @@
 -- The table of commands and the options named for each (document 01, 'One call').
 use Prim.Native.Nat.{ℕ}
 use mathlib.Core.Bool.{Bool, _&&_, _||_}
-use mathlib.Core.List.{List, [], _∷_}
+use mathlib.Core.List.{List, [], _∷_, map}
 use mathlib.Core.Option.{Option, none, some}
 use lib.Dec.{eqb}
+use lib.ListN.{getD}
 use Rattle.lists.specs.Tests.{cond, eqbs}
 use Rattle.lists.specs.Folds.{any}
 use Rattle.nucleus.specs.declared.Command.{Command}
@@ -44,6 +45,10 @@ code Bt = 66 ∷ 84 ∷ []
 code Re = 82 ∷ 69 ∷ []
 code Op = 79 ∷ 80 ∷ []
 code Cl = 67 ∷ 76 ∷ []
+
+-- the code at a place, from 0; zeros past the table's end
+unfoldable pub code-at : ℕ → List ℕ
+code-at place = getD (map code commands) place (0 ∷ 0 ∷ [])
 
 -- the first of some commands that has the letters
 abbrev pub seek : List ℕ → List Command → Option Command

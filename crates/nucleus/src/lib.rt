@@ -1,5 +1,6 @@
 // The nucleus (document 01): what it keeps between calls, a call, and what a call answers.
 ghost use mathlib.Core.Path.{_≡_};
+ghost use Rattle.nucleus.specs.Commands.{code-at};
 ghost use Rattle.nucleus.specs.Users.{opening};
 use definition::Definition;
 use definition::MAX_FILES;
@@ -31,8 +32,10 @@ pub enum Command {
     Cl,
 }
 
+pub const COMMANDS: usize = 13;
+
 // The table of commands: the code of each, at its place.
-pub const CODES: [[u8; 2]; 13] = [
+const CODES: [[u8; 2]; COMMANDS] = [
     *b"HI",
     *b"RI",
     *b"L1",
@@ -47,6 +50,16 @@ pub const CODES: [[u8; 2]; 13] = [
     *b"OP",
     *b"CL",
 ];
+
+// The code at a place of the table, from 0; zeros past its end.
+pub fn code_at(place: usize) -> [u8; 2]
+    ensures { λ r. ⌜ r ≡ code-at place ⌝ }
+{
+    if place < COMMANDS {
+        return CODES[place];
+    }
+    [0, 0]
+}
 
 // The options of a call.
 pub const BLANK: u8 = b' ';
