@@ -1,12 +1,13 @@
 -- A definition table: its limits, what is in use of a kept one, and its empty places (document 01, 'Files and their definition').
 use Prim.Native.Nat.{ℕ, min}
-use mathlib.Core.Bool.{Bool, _&&_}
+use mathlib.Core.Bool.{Bool, true, false, _&&_}
 use mathlib.Core.List.{List, []}
 use lib.Dec.{eqb}
 use lib.ListN.{getD, take, replicate}
 use Rattle.definition.specs.declared.Format.{Format}
 use Rattle.definition.specs.declared.Format.the-variants.{Alphanumeric, Binary, Unpacked, Packed}
-use Rattle.definition.specs.declared.FieldOption.the-variants.{Plain}
+use Rattle.definition.specs.declared.FieldOption.{FieldOption}
+use Rattle.definition.specs.declared.FieldOption.the-variants.{Plain, Descriptor, Unique}
 use Rattle.definition.specs.declared.Name.{Name}
 use Rattle.definition.specs.declared.Field.{Field}
 use Rattle.definition.specs.declared.File.{File}
@@ -70,6 +71,12 @@ file-count d = min (d .count) max-files
 
 abbrev pub files-of : Definition → List File
 files-of d = take (file-count d) (d .files)
+
+-- ---- "`D` descriptor, `U` unique descriptor"
+abbrev pub is-unique : FieldOption → Bool
+is-unique Plain = false
+is-unique Descriptor = false
+is-unique Unique = true
 
 -- ---- alike
 abbrev pub same-name : Name → Name → Bool

@@ -8,9 +8,9 @@ use mathlib.Core.Bool.{_&&_}
 use mathlib.Core.List.{List, [], _++_}
 use lib.ListN.{length, drop}
 use lib.Seq.{drop-drop}
-use Rattle.definition.specs.Table.{field-at, field-count}
+use Rattle.definition.specs.Table.{field-count}
 use Rattle.definition.specs.Shape.{FileShape}
-use Rattle.layout.specs.Layout.{field-length, field-offset, record-length}
+use Rattle.layout.specs.Layout.{record-length}
 use Rattle.layout.specs.Laws.{field-within}
 use Rattle.values.specs.Laws.{plain-stored, plain-allowed}
 use Rattle.elements.specs.Elements.{element, before, places, length-of, length-needed}

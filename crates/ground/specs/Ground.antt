@@ -8,10 +8,8 @@ use mathlib.Core.Option.{some}
 use lib.Dec.{eqb}
 use Rattle.lists.specs.Folds.{any}
 use Rattle.lists.specs.Sift.{sift}
-use Rattle.definition.specs.Table.{field-at, field-count}
+use Rattle.definition.specs.Table.{field-at, field-count, is-unique}
 use Rattle.definition.specs.Shape.{DefinitionShape}
-use Rattle.definition.specs.declared.FieldOption.{FieldOption}
-use Rattle.definition.specs.declared.FieldOption.the-variants.{Plain, Descriptor, Unique}
 use Rattle.definition.specs.declared.File.{File}
 use Rattle.definition.specs.declared.Definition.{Definition}
 use Rattle.validity.specs.Validity.{valid}
@@ -26,11 +24,6 @@ use Rattle.ground.specs.Queue.{queue-of}
 use Rattle.ground.specs.Fresh.{get-fresh-store}
 
 -- ---- the unique fields of a file, by their places
-abbrev pub is-unique : FieldOption → Bool
-is-unique Plain = false
-is-unique Descriptor = false
-is-unique Unique = true
-
 unfoldable pub uniques : File → List ℕ
 uniques f = sift (λ j. is-unique (field-at f j .option)) (numbers (field-count f) 0)
 

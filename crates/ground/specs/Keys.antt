@@ -9,14 +9,14 @@ use lib.Dec.{eqb}
 use lib.ListN.{length, getD}
 use lib.Seq.{getD-take, length-take-le}
 use borrow.Author.Tests.{eqb-true, eq-eqb}
-use Rattle.lists.specs.Tests.{within, within-inside, within-least, within-most, not-both, and-left, and-right, eqb-self}
+use Rattle.lists.specs.Tests.{within-inside, within-least, within-most, not-both, and-left, and-right, eqb-self}
 use Rattle.lists.specs.Folds.{any, all, Each, each-index, all-append}
 use Rattle.lists.specs.Sift.{elem-all}
 use Rattle.definition.specs.Table.{beyond, file-at, file-count, files-of}
 use Rattle.definition.specs.Shape.{DefinitionShape}
 use Rattle.definition.specs.declared.File.{File}
 use Rattle.definition.specs.declared.Definition.{Definition}
-use Rattle.layout.specs.Layout.{place}
+use Rattle.layout.specs.Layout.{place, file-found, isn-found}
 use Rattle.layout.specs.Laws.{place-found}
 use Rattle.layout.specs.declared.Found.{Found}
 use Rattle.layout.specs.declared.Found.the-variants.{At, Nowhere}
@@ -40,21 +40,12 @@ unfoldable pub key-isn : ℕ → ℕ
 key-isn k = k % isn-bound
 
 -- a file by its number
-abbrev pub file-found : Definition → Found → File
-file-found d (At i) = file-at d i
-file-found d Nowhere = beyond
-
 unfoldable pub file-of : Definition → ℕ → File
 file-of d n = file-found d (place d n)
 
--- an ISN of the file that was found
-abbrev pub known-at : Definition → Found → ℕ → Bool
-known-at d (At i) isn = within 1 (file-at d i .«max_isn») isn
-known-at d Nowhere isn = false
-
 -- the key is one of the table's: its file is in use, and its ISN is 1 to the file's highest
 unfoldable pub known : Definition → ℕ → Bool
-known d k = known-at d (place d (key-file k)) (key-isn k)
+known d k = isn-found d (place d (key-file k)) (key-isn k)
 
 -- all keys of the table: "files in table order, ISNs rising"
 abbrev pub keys-of : List File → List ℕ
@@ -119,7 +110,7 @@ module _ (d : Definition) (s : DefinitionShape d) where
   unfolding known
   known-found k h = go (place d (key-file k)) refl h
     where
-      go : (r : Found) → place d (key-file k) ≡ r → known-at d r (key-isn k) ≡ true → Known d k
+      go : (r : Found) → place d (key-file k) ≡ r → isn-found d r (key-isn k) ≡ true → Known d k
       go (At i) e t = record {
         at = i;
         found = e;

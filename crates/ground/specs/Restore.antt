@@ -13,7 +13,7 @@ use borrow.Author.Tests.{le-leb}
 use Rattle.definition.specs.Table.{file-at}
 use Rattle.definition.specs.Shape.{DefinitionShape}
 use Rattle.definition.specs.declared.Definition.{Definition}
-use Rattle.layout.specs.Layout.{record-length, store-size, image-length, place}
+use Rattle.layout.specs.Layout.{record-length, store-size, image-length, place, file-found}
 use Rattle.layout.specs.declared.Found.{Found}
 use Rattle.layout.specs.declared.Found.the-variants.{At, Nowhere}
 use Rattle.store.specs.Store.{put-record, empty, file-part, with-part}
@@ -22,7 +22,7 @@ use Rattle.entries.specs.declared.Entry.{Entry}
 use Rattle.hold.specs.Hold.{put-back-in, put-back-at, put-back, put-back-of, restored, restore}
 use Rattle.transactions.specs.Slots.{Slot}
 use Rattle.transactions.specs.Machine.{restore as machine-restore}
-use Rattle.ground.specs.Keys.{isn-bound, file-found, file-of, file-of-key, isn-of-key}
+use Rattle.ground.specs.Keys.{isn-bound, file-of, file-of-key, isn-of-key}
 use Rattle.ground.specs.Store.{put-in, put-at, put}
 use Rattle.ground.specs.StoreLaws.{put-is, put-room, put-length-same, put-past}
 use Rattle.ground.specs.Queue.{key-of, before, holds-of, queue-of, Made}

@@ -9,13 +9,13 @@ use lib.ListN.{length, replicate}
 use Rattle.definition.specs.Table.{file-at, file-count}
 use Rattle.definition.specs.declared.File.{File}
 use Rattle.definition.specs.declared.Definition.{Definition}
-use Rattle.layout.specs.Layout.{record-length, store-size, place}
+use Rattle.layout.specs.Layout.{record-length, store-size, place, isn-found}
 use Rattle.layout.specs.declared.Found.{Found}
 use Rattle.layout.specs.declared.Found.the-variants.{At, Nowhere}
 use Rattle.lists.specs.Numbers.{numbers}
 use Rattle.store.specs.Store.{get as get-record, put-record, empty, fresh, file-part, with-part}
 use Rattle.transactions.specs.Slots.{Slot}
-use Rattle.ground.specs.Keys.{key-file, key-isn, known-at}
+use Rattle.ground.specs.Keys.{key-file, key-isn}
 
 unfoldable pub whole : Definition → List ℕ → List ℕ
 whole d store = store ++ replicate (store-size d - length store) 0
@@ -46,7 +46,7 @@ fit-width f none = true
 fit-width f (some r) = eqb (length r) (record-length f)
 
 abbrev pub fit-at : Definition → Found → ℕ → Slot → Bool
-fit-at d (At i) isn x = known-at d (At i) isn && fit-width (file-at d i) x
+fit-at d (At i) isn x = isn-found d (At i) isn && fit-width (file-at d i) x
 fit-at d Nowhere isn x = false
 
 unfoldable pub fit : Definition → ℕ → Slot → Bool

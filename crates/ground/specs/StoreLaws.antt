@@ -15,7 +15,7 @@ use Rattle.definition.specs.Table.{file-at, file-count}
 use Rattle.definition.specs.Shape.{DefinitionShape}
 use Rattle.definition.specs.declared.File.{File}
 use Rattle.definition.specs.declared.Definition.{Definition}
-use Rattle.layout.specs.Layout.{record-length, file-size, store-size, place}
+use Rattle.layout.specs.Layout.{record-length, file-size, store-size, place, isn-found}
 use Rattle.layout.specs.Laws.{place-found}
 use Rattle.layout.specs.declared.Found.{Found}
 use Rattle.layout.specs.declared.Found.the-variants.{At, Nowhere}
@@ -23,7 +23,7 @@ use Rattle.store.specs.Store.{get as get-record, file-part, with-part}
 use Rattle.store.specs.Laws.{fits-whole, get-length, put-length, get-put as get-put-record, get-put-other, empty-length, get-empty, get-empty-other}
 use Rattle.store.specs.Files.{file-part-length, with-part-length, part-same, part-other, part-past}
 use Rattle.transactions.specs.Slots.{Slot}
-use Rattle.ground.specs.Keys.{isn-bound, key, file-of-key, isn-of-key, key-file, key-isn, key-parts, known, known-at, Known, known-found}
+use Rattle.ground.specs.Keys.{isn-bound, key, file-of-key, isn-of-key, key-file, key-isn, key-parts, known, Known, known-found}
 use Rattle.ground.specs.Store.{whole, get-at, get, put-in, put-at, put, fit-width, fit-at, fit}
 
 -- ---- one file's part
@@ -117,7 +117,7 @@ module _ (d : Definition) (s : DefinitionShape d) where
   unfolding fit known
   fit-known k x h = go (place d (key-file k)) h
     where
-      go : (r : Found) → fit-at d r (key-isn k) x ≡ true → known-at d r (key-isn k) ≡ true
+      go : (r : Found) → fit-at d r (key-isn k) x ≡ true → isn-found d r (key-isn k) ≡ true
       go (At i) t = and-left (within 1 (file-at d i .«max_isn») (key-isn k)) (fit-width (file-at d i) x) t
       go Nowhere t = t
 

@@ -10,7 +10,7 @@ use lib.Dec.{eqb}
 use Rattle.lists.specs.Tests.{eqb-self}
 use Rattle.lists.specs.Folds.{any}
 use Rattle.lists.specs.Sift.{any-sift}
-use Rattle.definition.specs.Table.{field-at, field-count}
+use Rattle.definition.specs.Table.{field-at, field-count, is-unique}
 use Rattle.definition.specs.Shape.{DefinitionShape}
 use Rattle.definition.specs.declared.Definition.{Definition}
 use Rattle.layout.specs.Layout.{record-length}
@@ -24,7 +24,7 @@ use Rattle.transactions.specs.Machine as machine
 use Rattle.ground.specs.Keys.{key, key-file, key-isn, Known, file-of-key, isn-of-key}
 use Rattle.ground.specs.Store.{get}
 use Rattle.ground.specs.Queue.{queue-of, Made}
-use Rattle.ground.specs.Ground.{is-unique, uniques}
+use Rattle.ground.specs.Ground.{uniques}
 use Rattle.ground.specs.Taken.{taken-is}
 use Rattle.nucleus.specs.Commands.{one-of}
 use Rattle.nucleus.specs.Nucleus.{Nucleus, Request}

@@ -15,11 +15,10 @@ use Rattle.definition.specs.Table.{field-at, field-count}
 use Rattle.definition.specs.declared.FieldOption.the-variants.{Unique}
 use Rattle.definition.specs.declared.File.{File}
 use Rattle.definition.specs.declared.Definition.{Definition}
-use Rattle.layout.specs.Layout.{place}
+use Rattle.layout.specs.Layout.{place, file-found}
 use Rattle.store.specs.Store.{field-value}
 use Rattle.reading.specs.Grammar.{read-table}
 use Rattle.nucleus.specs.Nucleus.{Nucleus}
-use Rattle.nucleus.specs.Target.{file-in}
 use Rattle.nucleus.specs.Step.{set-up}
 use Rattle.nucleus.specs.declared.Response.the-variants.{Good}
 use Rattle.history.specs.Journal.{Journal, in-transaction, record-told}
@@ -31,7 +30,7 @@ SameRecords d n j = (file isn : ℕ) → record-in d n file isn ≡ record-told 
 
 -- ---- no unique value twice
 abbrev pub file-numbered : Definition → ℕ → File
-file-numbered d file = file-in d (place d file)
+file-numbered d file = file-found d (place d file)
 
 abbrev pub UniqueValues : Definition → Nucleus → Type 0
 UniqueValues d n =

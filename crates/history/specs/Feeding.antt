@@ -8,10 +8,9 @@ use mathlib.Core.Option.{Option, none, some}
 use Rattle.lists.specs.Tests.{eqb-self}
 use Rattle.definition.specs.Table.{fields-of}
 use Rattle.definition.specs.declared.Definition.{Definition}
-use Rattle.layout.specs.Layout.{place}
+use Rattle.layout.specs.Layout.{place, file-found}
 use Rattle.fields.specs.Fields.{write-fields, nulls}
 use Rattle.nucleus.specs.Responses.{number}
-use Rattle.nucleus.specs.Target.{file-in}
 use Rattle.nucleus.specs.declared.Call.{Call}
 use Rattle.history.specs.Journal.{Journal, Change, add, apply, changed, fed, replayed, record-told}
 use Rattle.history.specs.Run.{Given, World, result, called, run}
@@ -41,13 +40,13 @@ journal-of-answers capacity (g ∷ gs) w = journal-of-answers capacity gs (calle
 module _ (d : Definition) (call : Call) (format buffer : List ℕ) (isn : ℕ) where
   last-added : (cs : List Change) (x : Option (List ℕ))
       → replayed d (call .file) isn x (cs ++ record { user = call .user; file = call .file; isn = isn; update = add format buffer; uncommitted = true } ∷ [])
-      ≡ some (write-fields (file-in d (place d (call .file))) format buffer (nulls (fields-of (file-in d (place d (call .file))))))
+      ≡ some (write-fields (file-found d (place d (call .file))) format buffer (nulls (fields-of (file-found d (place d (call .file))))))
   unfolding apply
   last-added [] x = rw (eqb-self (call .file), eqb-self isn)
   last-added (c ∷ cs) x = last-added cs _
 
   pub added-told : (j : Journal)
       → record-told d (changed call isn (add format buffer) j) (call .file) isn
-      ≡ some (write-fields (file-in d (place d (call .file))) format buffer (nulls (fields-of (file-in d (place d (call .file))))))
+      ≡ some (write-fields (file-found d (place d (call .file))) format buffer (nulls (fields-of (file-found d (place d (call .file))))))
   unfolding record-told changed
   added-told j = last-added (j .changes) none

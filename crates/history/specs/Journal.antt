@@ -10,14 +10,13 @@ use Rattle.lists.specs.Tests.{cond, within}
 use Rattle.lists.specs.Folds.{any}
 use Rattle.lists.specs.Sift.{sift}
 use Rattle.definition.specs.Table.{fields-of}
-use Rattle.layout.specs.Layout.{place}
+use Rattle.layout.specs.Layout.{place, file-found}
 use Rattle.fields.specs.Fields.{write-fields, nulls}
 use Rattle.definition.specs.declared.Definition.{Definition}
 use Rattle.definition.specs.declared.File.{File}
 use Rattle.nucleus.specs.Commands.{command-of, one-of}
 use Rattle.nucleus.specs.Users.{default-time-limit, or-default, late}
 use Rattle.nucleus.specs.Nucleus.{max-users}
-use Rattle.nucleus.specs.Target.{file-in}
 use Rattle.nucleus.specs.declared.Call.{Call}
 use Rattle.nucleus.specs.declared.Command.{Command}
 use Rattle.nucleus.specs.declared.Command.the-variants.{Hi, Ri, L1, L4, A1, E1, N1, N2, Et, Bt, Re, Op, Cl}
@@ -171,7 +170,7 @@ is-at file isn c = eqb (c .file) file && eqb (c .isn) isn
 
 abbrev pub replayed : Definition → ℕ → ℕ → Option (List ℕ) → List Change → Option (List ℕ)
 replayed d file isn x [] = x
-replayed d file isn x (c ∷ cs) = replayed d file isn (cond (is-at file isn c) (apply (file-in d (place d file)) (c .update) x) x) cs
+replayed d file isn x (c ∷ cs) = replayed d file isn (cond (is-at file isn c) (apply (file-found d (place d file)) (c .update) x) x) cs
 
 unfoldable pub record-told : Definition → Journal → ℕ → ℕ → Option (List ℕ)
 record-told d j file isn = replayed d file isn none (j .changes)

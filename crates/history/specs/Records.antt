@@ -12,12 +12,12 @@ use borrow.Author.Tests.{eqb-true, ltb-true, ltb-false, ne-eqb}
 use Rattle.lists.specs.Tests.{and-false, cond, Outcome, holds, fails, outcome, within, within-inside, within-least, within-most, not-both, and-left, and-right}
 use Rattle.lists.specs.Folds.{any, all}
 use Rattle.lists.specs.Sift.{any-sift}
-use Rattle.definition.specs.Table.{beyond, file-at, field-at, field-count}
+use Rattle.definition.specs.Table.{beyond, file-at, field-at, field-count, is-unique}
 use Rattle.definition.specs.Shape.{file-shape-at}
 use Rattle.definition.specs.declared.Definition.{Definition}
 use Rattle.definition.specs.declared.File.{File}
 use Rattle.definition.specs.declared.FieldOption.the-variants.{Unique}
-use Rattle.layout.specs.Layout.{place}
+use Rattle.layout.specs.Layout.{place, file-found, isn-found}
 use Rattle.layout.specs.Laws.{place-found}
 use Rattle.layout.specs.declared.Found.{Found}
 use Rattle.layout.specs.declared.Found.the-variants.{At, Nowhere}
@@ -27,13 +27,13 @@ use Rattle.store.specs.Store as records
 use Rattle.store.specs.Store.{slot-count, file-part}
 use Rattle.transactions.specs.Machine.{replay}
 use Rattle.transactions.specs.Theorems.{same-slots, no-value-twice}
-use Rattle.ground.specs.Keys.{isn-bound, key, key-file, file-of-key, isn-of-key, key-test, file-found, file-of, known, known-at, keys, keys-known}
+use Rattle.ground.specs.Keys.{isn-bound, key, key-file, file-of-key, isn-of-key, key-test, file-of, known, keys, keys-known}
 use Rattle.ground.specs.Store.{get, get-at}
 use Rattle.ground.specs.StoreLaws.{get-is}
-use Rattle.ground.specs.Ground.{is-unique, uniques}
+use Rattle.ground.specs.Ground.{uniques}
 use Rattle.nucleus.specs.Nucleus.{Nucleus}
 use Rattle.nucleus.specs.declared.User.{User}
-use Rattle.nucleus.specs.Target.{file-in, part-in}
+use Rattle.nucleus.specs.Target.{part-in}
 use Rattle.history.specs.Lists.{elem-both}
 use Rattle.history.specs.Journal.{Journal, Change, apply, is-at, replayed, record-told}
 use Rattle.history.specs.Run.{record-in}
@@ -44,14 +44,10 @@ use Rattle.history.specs.Kept.{Kept, definition-of, ground-of, seen, cha
 use Rattle.history.specs.People.{change-isn}
 use Rattle.history.specs.Ends.{laws-of}
 
--- ---- the file, as `ground` and as `nucleus` find it
-same-file : (d : Definition) (file : ℕ) → file-of d file ≡ file-in d (place d file)
+-- ---- the file by its number
+same-file : (d : Definition) (file : ℕ) → file-of d file ≡ file-found d (place d file)
 unfolding file-of
-same-file d file = go (place d file)
-  where
-    go : (x : Found) → file-found d x ≡ file-in d x
-    go (At i) = refl
-    go Nowhere = refl
+same-file d file = refl
 
 -- no record at an ISN that the file does not have
 none-outside : (f : File) (part : List ℕ) (isn : ℕ) → (1 ≤ isn → isn ≤ f .«max_isn» → ⊥) → records.get f part isn ≡ none
@@ -83,17 +79,17 @@ module _ (capacity : ℕ) (lent : Lent) (n : Nucleus) (j : Journal) (k : Kept ca
         get-is d (n .store) (k .sized .made .store-room) (key file isn)
         ∙ rw (file-of-key file isn small, isn-of-key file isn small) (go (place d file))
       where
-        go : (x : Found) → get-at d x isn (n .store) ≡ records.get (file-in d x) (part-in d x (n .store)) isn
+        go : (x : Found) → get-at d x isn (n .store) ≡ records.get (file-found d x) (part-in d x (n .store)) isn
         go (At i) = refl
         go Nowhere = sym (none-outside beyond [] isn (λ a b. absurd (omega arith)))
 
     -- one change of the journal, and of the machine's
     same-change : (c : Change) → c .isn < isn-bound → (x : Option (List ℕ))
         → cond (eqb (key (c .file) (c .isn)) (key file isn)) (apply (file-of d (key-file (key (c .file) (c .isn)))) (c .update) x) x
-        ≡ cond (is-at file isn c) (apply (file-in d (place d file)) (c .update) x) x
+        ≡ cond (is-at file isn c) (apply (file-found d (place d file)) (c .update) x) x
     same-change c s x = rw (key-test (c .file) (c .isn) file isn s small, file-of-key (c .file) (c .isn) s) (go (outcome (is-at file isn c)))
       where
-        go : Outcome (is-at file isn c) → cond (is-at file isn c) (apply (file-of d (c .file)) (c .update) x) x ≡ cond (is-at file isn c) (apply (file-in d (place d file)) (c .update) x) x
+        go : Outcome (is-at file isn c) → cond (is-at file isn c) (apply (file-of d (c .file)) (c .update) x) x ≡ cond (is-at file isn c) (apply (file-found d (place d file)) (c .update) x) x
         go (holds t) =
             let e : c .file ≡ file = eqb-true (c .file) file (and-left (eqb (c .file) file) (eqb (c .isn) isn) t) in
             ap (λ f. cond (is-at file isn c) (apply f (c .update) x) x) (ap (file-of d) e ∙ same-file d file)
@@ -121,9 +117,9 @@ module _ (capacity : ℕ) (lent : Lent) (n : Nucleus) (j : Journal) (k : Kept ca
         rw (apart, and-false (eqb (c .file) file)) (no-change cs (and-right (change-sound (n .state .users) c) (all (change-sound (n .state .users)) cs) h) x)
 
     none-large : record-in d n file isn ≡ none
-    none-large = none-outside (file-in d (place d file)) (part-in d (place d file) (n .store)) isn (λ a b. absurd (omega (arith, b, highest (place d file) refl, large)))
+    none-large = none-outside (file-found d (place d file)) (part-in d (place d file) (n .store)) isn (λ a b. absurd (omega (arith, b, highest (place d file) refl, large)))
       where
-        highest : (x : Found) → place d file ≡ x → file-in d x .«max_isn» < isn-bound
+        highest : (x : Found) → place d file ≡ x → file-found d x .«max_isn» < isn-bound
         highest (At i) e = file-shape-at d (k .sized .shape) i (omega (arith, place-found d (k .sized .shape) file i e .0)) .small-max-isn
         highest Nowhere e = omega arith
 
@@ -152,7 +148,7 @@ module _ (capacity : ℕ) (lent : Lent) (n : Nucleus) (j : Journal) (k : Kept ca
     unfolding known
     there-known = rw (file-of-key file isn there-small, isn-of-key file isn there-small) (go (place d file) refl)
       where
-        go : (x : Found) → place d file ≡ x → known-at d x isn ≡ true
+        go : (x : Found) → place d file ≡ x → isn-found d x isn ≡ true
         go (At i) e = inside (outcome (within 1 (file-at d i .«max_isn») isn))
           where
             inside : Outcome (within 1 (file-at d i .«max_isn») isn) → within 1 (file-at d i .«max_isn») isn ≡ true

@@ -3,12 +3,12 @@ use Prim.Native.Nat.{ℕ}
 use mathlib.Core.List.{List, [], _∷_}
 use mathlib.Core.Option.{Option}
 use Rattle.definition.specs.declared.Definition.{Definition}
-use Rattle.layout.specs.Layout.{place}
+use Rattle.layout.specs.Layout.{place, file-found}
 use Rattle.store.specs.Store.{get}
 use Rattle.nucleus.specs.Commands.{code, blank}
 use Rattle.nucleus.specs.Responses.{number}
 use Rattle.nucleus.specs.Nucleus.{Nucleus, Result}
-use Rattle.nucleus.specs.Target.{file-in, part-in}
+use Rattle.nucleus.specs.Target.{part-in}
 use Rattle.nucleus.specs.Step.{step, set-up}
 use Rattle.nucleus.specs.declared.Call.{Call}
 use Rattle.nucleus.specs.declared.Command.the-variants.{Bt}
@@ -67,4 +67,4 @@ struck-all (u ∷ us) j = struck-all us (struck u j)
 
 -- the record that the nucleus has at a file and ISN of a table, if any
 abbrev pub record-in : Definition → Nucleus → ℕ → ℕ → Option (List ℕ)
-record-in d n file isn = get (file-in d (place d file)) (part-in d (place d file) (n .store)) isn
+record-in d n file isn = get (file-found d (place d file)) (part-in d (place d file) (n .store)) isn

@@ -8,16 +8,14 @@ use borrow.Author.Tests.{le-leb, le-ltb}
 use Rattle.lists.specs.Tests.{Outcome, holds, fails, outcome}
 use Rattle.lists.specs.Folds.{all, all-at, each-at}
 use Rattle.definition.specs.declared.Definition.{Definition}
-use Rattle.layout.specs.Layout.{store-size, image-length, place}
-use Rattle.layout.specs.declared.Found.{Found}
-use Rattle.layout.specs.declared.Found.the-variants.{At, Nowhere}
+use Rattle.layout.specs.Layout.{store-size, image-length, place, isn-found}
 use Rattle.entries.specs.Laws.{no-entry}
 use Rattle.entries.specs.declared.Entry.{Entry}
-use Rattle.ground.specs.Keys.{isn-bound, key, file-of-key, isn-of-key, known, known-at}
+use Rattle.ground.specs.Keys.{isn-bound, key, file-of-key, isn-of-key, known}
 use Rattle.ground.specs.Queue.{entry-known}
 use Rattle.ground.specs.Reading.{entries-small}
 use Rattle.nucleus.specs.Nucleus.{Nucleus, entries-of}
-use Rattle.nucleus.specs.WellMade.{too-short, within-file, entry-made, user-made, well-made}
+use Rattle.nucleus.specs.WellMade.{too-short, entry-made, user-made, well-made}
 use Rattle.nucleus.specs.declared.User.{User}
 use Rattle.history.specs.Lists.{all-implies, all-index}
 use Rattle.history.specs.Journal.{Journal}
@@ -26,13 +24,9 @@ use Rattle.history.specs.Kept.{Kept, definition-of, user-sound, entry-ac
 use Rattle.history.specs.People.{active-sound}
 
 -- an entry of the table is within its file
-within-of-known : (d : Definition) (file isn : ℕ) → isn < isn-bound → known d (key file isn) ≡ true → within-file d (place d file) isn ≡ true
+within-of-known : (d : Definition) (file isn : ℕ) → isn < isn-bound → known d (key file isn) ≡ true → isn-found d (place d file) isn ≡ true
 unfolding known
-within-of-known d file isn small h = go (place d file) (rw (file-of-key file isn small, isn-of-key file isn small) at h)
-  where
-    go : (f : Found) → known-at d f isn ≡ true → within-file d f isn ≡ true
-    go (At i) t = t
-    go Nowhere t = t
+within-of-known d file isn small h = rw (file-of-key file isn small, isn-of-key file isn small) at h
 
 made-of-sound : (clock : ℕ) (u : User) → user-sound clock u ≡ true → user-made clock u ≡ true
 made-of-sound clock u h = go (outcome (u .active))

@@ -12,7 +12,7 @@ use borrow.Author.Tests.{eqb-true, eq-eqb, ltb-true, lt-ltb}
 use Rattle.lists.specs.Tests.{not-both, and-left, and-right}
 use Rattle.lists.specs.Folds.{any}
 use Rattle.lists.specs.Sift.{all-keeps, elem-all}
-use Rattle.definition.specs.Table.{field-at, field-count, fields-of}
+use Rattle.definition.specs.Table.{field-at, field-count, fields-of, is-unique}
 use Rattle.definition.specs.Shape.{FileShape, DefinitionShape, file-shape-at}
 use Rattle.definition.specs.declared.File.{File}
 use Rattle.definition.specs.declared.Definition.{Definition}
@@ -27,7 +27,7 @@ use Rattle.ground.specs.Lists.{all-numbers}
 use Rattle.ground.specs.Keys.{key-file, file-of, known, known-found, known-file}
 use Rattle.ground.specs.Store.{fit-width, fit}
 use Rattle.ground.specs.StoreLaws.{known-fit}
-use Rattle.ground.specs.Ground.{is-unique, uniques, UpdateLaws}
+use Rattle.ground.specs.Ground.{uniques, UpdateLaws}
 use Rattle.history.specs.Journal.{Update, replace, erase, add, apply}
 use Rattle.history.specs.Updates.{FileUpdate, suits, judged, updates}
 

@@ -4,9 +4,10 @@ use Prim.Native.Nat.{ℕ, _+_, _-_, _*_}
 use mathlib.Core.List.{List, [], _∷_}
 use lib.Dec.{eqb}
 use lib.ListN.{take}
-use Rattle.lists.specs.Tests.{cond}
+use mathlib.Core.Bool.{Bool, false}
+use Rattle.lists.specs.Tests.{cond, within}
 use Rattle.lists.specs.Folds.{total, maximum}
-use Rattle.definition.specs.Table.{file-at, fields-of, files-of}
+use Rattle.definition.specs.Table.{beyond, file-at, fields-of, files-of}
 use Rattle.definition.specs.declared.Field.{Field}
 use Rattle.definition.specs.declared.File.{File}
 use Rattle.definition.specs.declared.Definition.{Definition}
@@ -58,3 +59,13 @@ seek n (f ∷ fs) i = cond (eqb (f .number) n) (At i) (seek n fs (i + 1))
 -- a file by its number
 unfoldable pub place : Definition → ℕ → Found
 place d n = seek n (files-of d) 0
+
+-- the file at the place that was found; one without fields and ISNs where none was
+abbrev pub file-found : Definition → Found → File
+file-found d (At i) = file-at d i
+file-found d Nowhere = beyond
+
+-- whether an ISN is one of that file's
+abbrev pub isn-found : Definition → Found → ℕ → Bool
+isn-found d (At i) isn = within 1 (file-at d i .«max_isn») isn
+isn-found d Nowhere isn = false

@@ -2,14 +2,14 @@
 -- first row that holds. What a refused call leaves goes by the three lists: nothing is changed by the first; the second comes after the clock
 -- and the back-outs, the third after the session that opened.
 use Prim.Native.Nat.{ℕ}
-use mathlib.Core.Bool.{Bool, true, false, not, _&&_, _||_}
+use mathlib.Core.Bool.{Bool, false, not, _&&_, _||_}
 use mathlib.Core.List.{List, [], _∷_}
 use mathlib.Core.Option.{Option, none, some}
 use lib.Dec.{eqb, leb, ltb}
 use lib.ListN.{length}
 use Rattle.lists.specs.Tests.{cond, within}
 use Rattle.lists.specs.Folds.{any}
-use Rattle.definition.specs.Table.{field-at, field-count}
+use Rattle.definition.specs.Table.{field-at, field-count, is-unique}
 use Rattle.layout.specs.Layout.{field-offset}
 use Rattle.validity.specs.Validity.{valid}
 use Rattle.elements.specs.Elements.{format-valid, named-twice, length-needed, places}
@@ -18,8 +18,6 @@ use Rattle.lists.specs.Numbers.{numbers}
 use Rattle.store.specs.Store.{record-of, field-value, elsewhere}
 use Rattle.queue.specs.Queue as queue
 use Rattle.images.specs.Images.{image-has}
-use Rattle.definition.specs.declared.FieldOption.{FieldOption}
-use Rattle.definition.specs.declared.FieldOption.the-variants.{Plain, Descriptor, Unique}
 use Rattle.nucleus.specs.Commands.{command-of, one-of, has-option, option-I, option-H}
 use Rattle.nucleus.specs.Nucleus.{Nucleus, Request, max-users, max-et-data, data-at, user-of, entries-of}
 use Rattle.nucleus.specs.WellMade.{too-short, well-made}
@@ -176,11 +174,6 @@ module _ (r : Request) (n : Nucleus) where
 
   unfoldable pub new-record : ℕ → List ℕ
   new-record isn = write-fields (file r n) (r .format) (r .buffer) (record-before isn)
-
-  abbrev pub is-unique : FieldOption → Bool
-  is-unique Plain = false
-  is-unique Descriptor = false
-  is-unique Unique = true
 
   -- "N1 and N2 judge every unique field, A1 the named ones"
   abbrev pub judged : ℕ → Bool

@@ -6,8 +6,7 @@ use lib.Dec.{eqb}
 use lib.ListN.{getD}
 use Rattle.lists.specs.Tests.{cond}
 use Rattle.lists.specs.Folds.{any}
-use Rattle.definition.specs.Table.{beyond, file-at}
-use Rattle.layout.specs.Layout.{place}
+use Rattle.layout.specs.Layout.{place, file-found}
 use Rattle.lists.specs.Numbers.{from-to}
 use Rattle.store.specs.Store.{first-of, has-record, lowest, file-part, with-part}
 use Rattle.entries.specs.Entries.{is-of}
@@ -28,10 +27,6 @@ use Rattle.nucleus.specs.declared.Command.the-variants.{N1}
 abbrev pub is-file : Found → Bool
 is-file (found-at.At i) = true
 is-file found-at.Nowhere = false
-
-abbrev pub file-in : Definition → Found → File
-file-in d (found-at.At i) = file-at d i
-file-in d found-at.Nowhere = beyond
 
 abbrev pub part-in : Definition → Found → List ℕ → List ℕ
 part-in d (found-at.At i) store = file-part d i store
@@ -73,7 +68,7 @@ module _ (r : Request) (n : Nucleus) where
   found = place (n .state .definition) (r .call .file)
 
   abbrev pub file : File
-  file = file-in (n .state .definition) found
+  file = file-found (n .state .definition) found
 
   abbrev pub part : List ℕ
   part = part-in (n .state .definition) found (n .store)

@@ -1,19 +1,17 @@
 -- Sizes, and when a state is well made (document 01, below the table of responses).
 use Prim.Native.Nat.{ℕ, _*_}
-use mathlib.Core.Bool.{Bool, true, false, not, _&&_, _||_}
+use mathlib.Core.Bool.{Bool, true, not, _&&_, _||_}
 use mathlib.Core.List.{List, [], _∷_}
 use lib.Dec.{leb, ltb}
 use lib.ListN.{length}
 use Rattle.lists.specs.Tests.{within}
 use Rattle.lists.specs.Folds.{all}
-use Rattle.definition.specs.Table.{file-at, files-of}
-use Rattle.layout.specs.Layout.{store-size, image-length, place}
+use Rattle.definition.specs.Table.{files-of}
+use Rattle.layout.specs.Layout.{store-size, image-length, place, isn-found}
 use Rattle.validity.specs.Validity.{valid}
 use Rattle.repeats.specs.Repeats.{repeated}
 use Rattle.definition.specs.declared.Definition.{Definition}
 use Rattle.definition.specs.declared.File.{File}
-use Rattle.layout.specs.declared.Found.{Found}
-use Rattle.layout.specs.declared.Found.the-variants.{At, Nowhere}
 use Rattle.entries.specs.declared.Entry.{Entry}
 use Rattle.nucleus.specs.Nucleus.{Nucleus, max-users, max-capacity, max-et-data, user-at, entries-of}
 use Rattle.nucleus.specs.declared.User.{User}
@@ -29,13 +27,9 @@ too-short d capacity store queue images =
     || ltb (length images) (capacity * image-length d)
 
 -- ---- entries: "each within its file and of a user in a transaction"
-abbrev pub within-file : Definition → Found → ℕ → Bool
-within-file d (At i) isn = within 1 (file-at d i .«max_isn») isn
-within-file d Nowhere isn = false
-
 abbrev pub entry-made : State → Entry → Bool
 entry-made s e =
-    within-file (s .definition) (place (s .definition) (e .file)) (e .isn)
+    isn-found (s .definition) (place (s .definition) (e .file)) (e .isn)
     && (within 1 max-users (e .user) && user-at s (e .user) .active)
 
 -- ---- users: "whoever is in one has a session; no transaction begun after the kept clock"

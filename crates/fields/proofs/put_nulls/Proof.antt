@@ -1,10 +1,10 @@
 -- `put_nulls` meets its contract. The loop's invariant: the nulls of the fields that are left, stored from here on, make the whole.
 -- Assumes nothing.
-use Prim.Native.Nat.{ℕ, _+_, _-_, _≤_, _<_}
+use Prim.Native.Nat.{_+_, _-_, _≤_, _<_}
 use native.Mathlib.Omega.{arith}
 use mathlib.Core.Path.{_≡_, refl, sym, _∙_}
 use lib.ListN.{length, drop}
-use lib.Seq.{sets, length-sets}
+use lib.Seq.{sets}
 use borrow.Author.Tests.{le-leb, lt-leb}
 use Rattle.lists.specs.Parts.{sets-append}
 use Rattle.definition.specs.Table.{field-at, field-count, fields-of}

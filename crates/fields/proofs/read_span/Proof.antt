@@ -1,6 +1,5 @@
 -- `read_span` meets its contract.
 -- Assumes nothing.
-use native.Mathlib.Omega.{arith}
 use mathlib.Core.Path.{_≡_, sym, _∙_}
 use lib.ListN.{length}
 use Rattle.lists.specs.Parts.{part-take, length-piece, length-part, patched-sets}

@@ -1,7 +1,7 @@
 -- `copy` meets its contract. The loop's invariant: up to `i` the new bytes stand, from `i` on the old ones.
 -- Assumes nothing.
 use Prim.Native.Nat.{_-_, _≤_, min}
-use mathlib.Core.Path.{_≡_, refl, sym, ap, _∙_}
+use mathlib.Core.Path.{_≡_, refl, ap, _∙_}
 use native.Mathlib.Omega.{arith}
 use mathlib.Core.List.{_++_}
 use lib.ListN.{length, take, drop, length-set}
