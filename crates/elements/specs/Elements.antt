@@ -8,13 +8,13 @@ use lib.ListN.{drop}
 use Rattle.lists.specs.Tests.{cond}
 use Rattle.lists.specs.Folds.{all, total, distinct}
 use Rattle.definition.specs.Table.{field-at, fields-of, same-name}
-use Rattle.layout.specs.Layout.{field-length}
+use Rattle.records.specs.Records.{field-length}
 use Rattle.elements.specs.Search.{first-place}
 use Rattle.definition.specs.declared.Name.{Name}
 use Rattle.definition.specs.declared.Field.{Field}
 use Rattle.definition.specs.declared.File.{File}
-use Rattle.layout.specs.declared.Found.{Found}
-use Rattle.layout.specs.declared.Found.the-variants.{At, Nowhere}
+use Rattle.records.specs.declared.Found.{Found}
+use Rattle.records.specs.declared.Found.the-variants.{At, Nowhere}
 use Rattle.elements.specs.declared.Needed.{Needed}
 use Rattle.elements.specs.declared.Needed.the-variants.{Fits, TooLong}
 

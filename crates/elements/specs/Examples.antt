@@ -10,7 +10,7 @@ use Rattle.elements.specs.Elements.{field-named, format-valid, element, 
 use Rattle.definition.specs.declared.Format.the-variants.{Alphanumeric}
 use Rattle.definition.specs.declared.FieldOption.the-variants.{Plain, Unique}
 use Rattle.definition.specs.declared.File.{File}
-use Rattle.layout.specs.declared.Found.the-variants.{At, Nowhere}
+use Rattle.records.specs.declared.Found.the-variants.{At, Nowhere}
 use Rattle.elements.specs.declared.Needed.the-variants.{Fits, TooLong}
 
 paper : File

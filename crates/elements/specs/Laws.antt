@@ -20,8 +20,8 @@ use Rattle.elements.specs.Lists.{distinct-most}
 use Rattle.elements.specs.Steps.{name-at, names-more, element-name, places-step}
 use Rattle.definition.specs.declared.Name.{Name}
 use Rattle.definition.specs.declared.File.{File}
-use Rattle.layout.specs.declared.Found.{Found}
-use Rattle.layout.specs.declared.Found.the-variants.{At, Nowhere}
+use Rattle.records.specs.declared.Found.{Found}
+use Rattle.records.specs.declared.Found.the-variants.{At, Nowhere}
 use Rattle.elements.specs.declared.Needed.the-variants.{Fits, TooLong}
 
 -- ---- a field by its name

@@ -8,8 +8,8 @@ use mathlib.Core.Bool.{Bool, true, false}
 use mathlib.Core.List.{List, [], _∷_}
 use lib.ListN.{length, getD}
 use Rattle.lists.specs.Tests.{cond, Outcome, holds, fails, outcome}
-use Rattle.layout.specs.declared.Found.{Found}
-use Rattle.layout.specs.declared.Found.the-variants.{At, Nowhere}
+use Rattle.records.specs.declared.Found.{Found}
+use Rattle.records.specs.declared.Found.the-variants.{At, Nowhere}
 
 module _ {A : Type 0} (test : A → Bool) where
   -- in a list that begins at the place i

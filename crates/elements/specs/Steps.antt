@@ -12,8 +12,8 @@ use Rattle.lists.specs.Folds.{total}
 use Rattle.elements.specs.Elements.{comma, period, names, form, field-named, first-named, element, before, places-of, places, length-at, length-of, length-needed}
 use Rattle.definition.specs.declared.Name.{Name}
 use Rattle.definition.specs.declared.File.{File}
-use Rattle.layout.specs.declared.Found.{Found}
-use Rattle.layout.specs.declared.Found.the-variants.{At, Nowhere}
+use Rattle.records.specs.declared.Found.{Found}
+use Rattle.records.specs.declared.Found.the-variants.{At, Nowhere}
 
 -- ---- the first element of some bytes
 names-next : (l : List ℕ) → names (drop 3 l) ≡ drop 1 (names l)

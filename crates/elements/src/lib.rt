@@ -6,7 +6,7 @@ ghost use Rattle.elements.specs.Elements.{form, field-named, format-vali
 use definition::File;
 use definition::MAX_FIELDS;
 use definition::Name;
-use layout::Found;
+use records::Found;
 
 const COMMA: u8 = b',';
 
@@ -119,7 +119,7 @@ fn length_of(f: File, found: Found) -> usize
     let Found::At(k) = found else {
         return 0;
     };
-    layout::field_length(f, k)
+    records::field_length(f, k)
 }
 
 // The bytes that the values of the named fields take, one after another, where they fit into the room. The sum never passes the room, so it

@@ -7,7 +7,7 @@ use mathlib.Core.Bool.{Bool, true, false}
 use mathlib.Core.List.{List, [], _∷_, map}
 use lib.ListN.{set}
 use Rattle.definition.specs.Table.{no-file}
-use Rattle.layout.specs.Layout.{field-offset, record-length}
+use Rattle.records.specs.Records.{field-offset, record-length}
 use Rattle.values.specs.Values.{allowed, below-zero, stored, null-value}
 use Rattle.elements.specs.Elements.{field-named, places, length-needed}
 use Rattle.fields.specs.Fields.{fits, read-fields, write-fields, values-allowed, null-record}

@@ -8,11 +8,11 @@ use lib.ListN.{length, take, drop}
 use lib.Seq.{sets}
 use Rattle.lists.specs.Tests.{cond}
 use Rattle.definition.specs.Table.{field-at, fields-of}
-use Rattle.layout.specs.Layout.{field-length, field-offset, record-length}
+use Rattle.records.specs.Records.{field-length, field-offset, record-length}
 use Rattle.values.specs.Values.{allowed, stored, null-value}
 use Rattle.elements.specs.Elements.{places, length-needed}
-use Rattle.layout.specs.declared.Found.{Found}
-use Rattle.layout.specs.declared.Found.the-variants.{At, Nowhere}
+use Rattle.records.specs.declared.Found.{Found}
+use Rattle.records.specs.declared.Found.the-variants.{At, Nowhere}
 use Rattle.fields.specs.declared.Span.{Span}
 use Rattle.definition.specs.declared.Format.the-variants.{Alphanumeric}
 use Rattle.definition.specs.declared.Field.{Field}

@@ -16,8 +16,8 @@ use Rattle.lists.specs.Tests.{cond, Outcome, holds, fails, outcome, and-left, a
 use Rattle.lists.specs.Folds.{any, total, distinct, Each}
 use Rattle.definition.specs.Table.{no-field, field-at, field-count, fields-of}
 use Rattle.definition.specs.Shape.{FileShape}
-use Rattle.layout.specs.Layout.{field-length, field-offset, record-length}
-use Rattle.layout.specs.Laws.{field-before, field-within}
+use Rattle.records.specs.Records.{field-length, field-offset, record-length}
+use Rattle.records.specs.Laws.{field-before, field-within}
 use Rattle.values.specs.Values.{stored, null-value}
 use Rattle.values.specs.Laws.{stored-length, null-length}
 use Rattle.elements.specs.Elements.{places, named-twice, length-at, length-needed}

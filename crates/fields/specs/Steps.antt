@@ -10,8 +10,8 @@ use lib.ListN.{length, drop}
 use lib.Seq.{drop-drop}
 use Rattle.definition.specs.Table.{field-count}
 use Rattle.definition.specs.Shape.{FileShape}
-use Rattle.layout.specs.Layout.{record-length}
-use Rattle.layout.specs.Laws.{field-within}
+use Rattle.records.specs.Records.{record-length}
+use Rattle.records.specs.Laws.{field-within}
 use Rattle.values.specs.Laws.{plain-stored, plain-allowed}
 use Rattle.elements.specs.Elements.{element, before, places, length-of, length-needed}
 use Rattle.elements.specs.Steps.{places-step, needed-step}
@@ -20,8 +20,8 @@ use Rattle.lists.specs.Parts.{length-piece}
 use Rattle.fields.specs.Fields.{span-of, span-bytes, span-written, span-allowed, read-out, write-in, allowed-in}
 use Rattle.fields.specs.declared.Span.{Span}
 use Rattle.definition.specs.declared.File.{File}
-use Rattle.layout.specs.declared.Found.{Found}
-use Rattle.layout.specs.declared.Found.the-variants.{At, Nowhere}
+use Rattle.records.specs.declared.Found.{Found}
+use Rattle.records.specs.declared.Found.the-variants.{At, Nowhere}
 
 -- a field that was found lies within the record
 span-inside : (f : File) → FileShape f → (x : Found) → ((k : ℕ) → x ≡ At k → k < field-count f) → span-of f x .start + span-of f x .length ≤ record-length f

@@ -12,7 +12,7 @@ use definition::File;
 use definition::Format;
 use elements::ELEMENT;
 use elements::Needed;
-use layout::Found;
+use records::Found;
 
 // Where a field lies in its record, and what lies there.
 struct Span {
@@ -33,7 +33,7 @@ fn span_of(f: File, found: Found) -> Span
         };
     };
     let g = definition::field_at(f, k);
-    let start = layout::field_offset(f, k);
+    let start = records::field_offset(f, k);
     let length = g.length as usize;
     let format = g.format;
     Span {
@@ -112,7 +112,7 @@ pub fn read_fields(f: File, format: &[u8], content: &[u8], buffer: &mut [u8]) ->
     let Needed::Fits(_) = needed else {
         return 0;
     };
-    if content.len() < layout::record_length(f) {
+    if content.len() < records::record_length(f) {
         return 0;
     }
     let mut i = 0;
@@ -135,7 +135,7 @@ pub fn write_fields(f: File, format: &[u8], values: &[u8], content: &mut [u8])
     let Needed::Fits(_) = needed else {
         return;
     };
-    if content.len() < layout::record_length(f) {
+    if content.len() < records::record_length(f) {
         return;
     }
     let mut i = 0;
@@ -173,7 +173,7 @@ pub fn values_allowed(f: File, format: &[u8], values: &[u8]) -> bool
 pub fn put_nulls(f: File, content: &mut [u8])
     ensures { λ _. ⌜ now (content .exit) ≡ null-record f (now (content .entry)) ⌝ }
 {
-    if content.len() < layout::record_length(f) {
+    if content.len() < records::record_length(f) {
         return;
     }
     let n = definition::field_count(f);

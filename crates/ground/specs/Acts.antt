@@ -18,10 +18,11 @@ use Rattle.entries.specs.Laws.{Shape, length-entries}
 use Rattle.queue.specs.Laws.{entries-append, free-none}
 use Rattle.entries.specs.declared.Entry.{Entry}
 use Rattle.queue.specs.declared.Lookup.the-variants.{Held, Free}
-use Rattle.images.specs.Images.{remove-queue, remove-images, remove-count}
-use Rattle.images.specs.declared.Removal.{Removal}
-use Rattle.images.specs.declared.Removal.the-variants.{One, Unchanged, All}
-use Rattle.hold.specs.Hold.{first-change-queue, first-change-images, restore}
+use Rattle.removal.specs.Removal.{remove-queue, remove-images, remove-count}
+use Rattle.removal.specs.declared.Removal.{Removal}
+use Rattle.removal.specs.declared.Removal.the-variants.{One, Unchanged, All}
+use Rattle.changes.specs.Changes.{first-change-queue, first-change-images}
+use Rattle.hold.specs.Hold.{restore}
 use Rattle.transactions.specs.Machine.{Entry as MachineEntry, Ground, Machine, new-entry, at-key, with-hold, mark, hold, release, release-all, change, end, back-out, act}
 use Rattle.ground.specs.Lists.{any-behind}
 use Rattle.ground.specs.Keys.{isn-bound, key}

@@ -21,10 +21,12 @@ use Rattle.entries.specs.Laws.{Shape}
 use Rattle.queue.specs.Laws.{is-held, entries-append}
 use Rattle.entries.specs.declared.Entry.{Entry}
 use Rattle.queue.specs.declared.Lookup.the-variants.{Held, Free}
-use Rattle.images.specs.Images.{stays, fits, remove-queue, remove-images, remove-count, hold-of, with-images}
-use Rattle.images.specs.Laws.{with-images-append, with-images-remove}
-use Rattle.images.specs.declared.Removal.{Removal}
-use Rattle.images.specs.declared.Removal.the-variants.{One, Unchanged, All}
+use Rattle.removal.specs.Removal.{stays, fits, remove-queue, remove-images, remove-count}
+use Rattle.images.specs.Images.{hold-of, with-images}
+use Rattle.images.specs.Laws.{with-images-append}
+use Rattle.removal.specs.Laws.{with-images-remove}
+use Rattle.removal.specs.declared.Removal.{Removal}
+use Rattle.removal.specs.declared.Removal.the-variants.{One, Unchanged, All}
 use Rattle.transactions.specs.Machine.{Entry as MachineEntry, new-entry, of-user, at-key, with-hold, without}
 use Rattle.ground.specs.Keys.{isn-bound, key, key-test}
 use Rattle.ground.specs.Queue.{key-of, before, held, holds-of, queue-of, Made}

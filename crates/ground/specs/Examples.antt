@@ -11,7 +11,8 @@ use Rattle.definition.specs.declared.File.{File}
 use Rattle.definition.specs.declared.Definition.{Definition}
 use Rattle.definition.specs.declared.Format.the-variants.{Alphanumeric}
 use Rattle.definition.specs.declared.FieldOption.the-variants.{Plain, Unique}
-use Rattle.layout.specs.Layout.{record-length, file-offset, store-size, image-length, place}
+use Rattle.records.specs.Records.{record-length}
+use Rattle.layout.specs.Layout.{file-offset, store-size, image-length, place}
 use Rattle.store.specs.Store.{slot-fits, has-record, get as get-record, put-record, empty, file-part, with-part}
 use Rattle.entries.specs.Entries.{pack-of, unpack-of, entries}
 use Rattle.hold.specs.Hold.{put-back-in, put-back, restore}

@@ -17,7 +17,8 @@ use Rattle.lists.specs.Folds.{maximum, all-at}
 use Rattle.definition.specs.Table.{beyond, file-at, file-count, files-of}
 use Rattle.definition.specs.Shape.{DefinitionShape}
 use Rattle.definition.specs.declared.Definition.{Definition}
-use Rattle.layout.specs.Layout.{record-length, image-length}
+use Rattle.records.specs.Records.{record-length}
+use Rattle.layout.specs.Layout.{image-length}
 use Rattle.queue.specs.Queue.{mark as mark-entry, holder, change}
 use Rattle.entries.specs.Entries.{entries}
 use Rattle.lists.specs.Maps.{map-set}
@@ -25,7 +26,7 @@ use Rattle.entries.specs.Laws.{no-entry, length-entries}
 use Rattle.queue.specs.Laws.{entries-change, Found, held-found}
 use Rattle.entries.specs.declared.Entry.{Entry}
 use Rattle.queue.specs.declared.Lookup.the-variants.{Held}
-use Rattle.hold.specs.Hold.{keep-image, settled, first-change-queue, first-change-images}
+use Rattle.changes.specs.Changes.{keep-image, settled, first-change-queue, first-change-images}
 use Rattle.images.specs.Images.{hold-of, with-images}
 use Rattle.images.specs.Laws.{with-images-set, with-images-image}
 use Rattle.transactions.specs.Slots.{Slot}

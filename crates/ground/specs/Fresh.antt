@@ -14,10 +14,11 @@ use Rattle.lists.specs.Folds.{any, Each}
 use Rattle.definition.specs.Table.{file-at, file-count}
 use Rattle.definition.specs.Shape.{DefinitionShape}
 use Rattle.definition.specs.declared.Definition.{Definition}
-use Rattle.layout.specs.Layout.{file-size, store-size, place}
+use Rattle.records.specs.Records.{file-size}
+use Rattle.layout.specs.Layout.{store-size, place}
 use Rattle.layout.specs.Laws.{place-found}
-use Rattle.layout.specs.declared.Found.{Found}
-use Rattle.layout.specs.declared.Found.the-variants.{At, Nowhere}
+use Rattle.records.specs.declared.Found.{Found}
+use Rattle.records.specs.declared.Found.the-variants.{At, Nowhere}
 use Rattle.lists.specs.Numbers.{numbers, each-number}
 use Rattle.store.specs.Store.{get as get-record, fresh, file-part}
 use Rattle.store.specs.Laws.{fresh-length, get-fresh}

@@ -22,10 +22,11 @@ use Rattle.entries.specs.Laws.{Shape, no-entry}
 use Rattle.queue.specs.Laws.{free-none, entries-append, length-append-entry, entries-change, length-change}
 use Rattle.entries.specs.declared.Entry.{Entry}
 use Rattle.queue.specs.declared.Lookup.the-variants.{Free}
-use Rattle.images.specs.Images.{stays, remove-queue, remove-images, remove-count}
-use Rattle.images.specs.Laws.{remove-count-most, length-remove-queue, length-remove-images, entries-remove}
-use Rattle.images.specs.declared.Removal.{Removal}
-use Rattle.hold.specs.Hold.{keep-image, settled, first-change-queue, first-change-images, restore}
+use Rattle.removal.specs.Removal.{stays, remove-queue, remove-images, remove-count}
+use Rattle.removal.specs.Laws.{remove-count-most, length-remove-queue, length-remove-images, entries-remove}
+use Rattle.removal.specs.declared.Removal.{Removal}
+use Rattle.changes.specs.Changes.{keep-image, settled, first-change-queue, first-change-images}
+use Rattle.hold.specs.Hold.{restore}
 use Rattle.transactions.specs.Slots.{Slot}
 use Rattle.ground.specs.Lists.{all-over, distinct-over, distinct-sift}
 use Rattle.ground.specs.Keys.{known}

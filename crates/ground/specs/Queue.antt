@@ -8,7 +8,8 @@ use mathlib.Core.Option.{none, some}
 use lib.ListN.{length, take}
 use Rattle.lists.specs.Folds.{all}
 use Rattle.definition.specs.declared.Definition.{Definition}
-use Rattle.layout.specs.Layout.{record-length, store-size, image-length}
+use Rattle.records.specs.Records.{record-length}
+use Rattle.layout.specs.Layout.{store-size, image-length}
 use Rattle.entries.specs.Entries.{entries}
 use Rattle.repeats.specs.Repeats.{repeated}
 use Rattle.entries.specs.declared.Entry.{Entry}

@@ -13,9 +13,10 @@ use borrow.Author.Tests.{le-leb}
 use Rattle.definition.specs.Table.{file-at}
 use Rattle.definition.specs.Shape.{DefinitionShape}
 use Rattle.definition.specs.declared.Definition.{Definition}
-use Rattle.layout.specs.Layout.{record-length, store-size, image-length, place, file-found}
-use Rattle.layout.specs.declared.Found.{Found}
-use Rattle.layout.specs.declared.Found.the-variants.{At, Nowhere}
+use Rattle.records.specs.Records.{record-length}
+use Rattle.layout.specs.Layout.{store-size, image-length, place, file-found}
+use Rattle.records.specs.declared.Found.{Found}
+use Rattle.records.specs.declared.Found.the-variants.{At, Nowhere}
 use Rattle.store.specs.Store.{put-record, empty, file-part, with-part}
 use Rattle.entries.specs.Entries.{entries}
 use Rattle.entries.specs.declared.Entry.{Entry}

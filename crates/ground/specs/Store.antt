@@ -9,9 +9,10 @@ use lib.ListN.{length, replicate}
 use Rattle.definition.specs.Table.{file-at, file-count}
 use Rattle.definition.specs.declared.File.{File}
 use Rattle.definition.specs.declared.Definition.{Definition}
-use Rattle.layout.specs.Layout.{record-length, store-size, place, isn-found}
-use Rattle.layout.specs.declared.Found.{Found}
-use Rattle.layout.specs.declared.Found.the-variants.{At, Nowhere}
+use Rattle.records.specs.Records.{record-length}
+use Rattle.layout.specs.Layout.{store-size, place, isn-found}
+use Rattle.records.specs.declared.Found.{Found}
+use Rattle.records.specs.declared.Found.the-variants.{At, Nowhere}
 use Rattle.lists.specs.Numbers.{numbers}
 use Rattle.store.specs.Store.{get as get-record, put-record, empty, fresh, file-part, with-part}
 use Rattle.transactions.specs.Slots.{Slot}

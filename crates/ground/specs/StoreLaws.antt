@@ -15,10 +15,11 @@ use Rattle.definition.specs.Table.{file-at, file-count}
 use Rattle.definition.specs.Shape.{DefinitionShape}
 use Rattle.definition.specs.declared.File.{File}
 use Rattle.definition.specs.declared.Definition.{Definition}
-use Rattle.layout.specs.Layout.{record-length, file-size, store-size, place, isn-found}
+use Rattle.records.specs.Records.{record-length, file-size}
+use Rattle.layout.specs.Layout.{store-size, place, isn-found}
 use Rattle.layout.specs.Laws.{place-found}
-use Rattle.layout.specs.declared.Found.{Found}
-use Rattle.layout.specs.declared.Found.the-variants.{At, Nowhere}
+use Rattle.records.specs.declared.Found.{Found}
+use Rattle.records.specs.declared.Found.the-variants.{At, Nowhere}
 use Rattle.store.specs.Store.{get as get-record, file-part, with-part}
 use Rattle.store.specs.Laws.{fits-whole, get-length, put-length, get-put as get-put-record, get-put-other, empty-length, get-empty, get-empty-other}
 use Rattle.store.specs.Files.{file-part-length, with-part-length, part-same, part-other, part-past}

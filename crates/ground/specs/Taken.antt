@@ -11,20 +11,21 @@ use lib.Dec.{eqb}
 use lib.ListN.{length}
 use borrow.Author.Tests.{eqb-true, eqb-false, ne-eqb, not-true}
 use Rattle.lists.specs.Tests.{Outcome, holds, fails, outcome, not-both, eqb-self, eqbs-self, and-left, and-right}
-use Rattle.lists.specs.Folds.{any}
+use Rattle.lists.specs.Folds.{any, any-agree, any-true}
 use Rattle.lists.specs.Sift.{any-elem}
 use Rattle.definition.specs.Table.{file-at, field-count}
 use Rattle.definition.specs.Shape.{FileShape, DefinitionShape, file-shape-at}
 use Rattle.definition.specs.declared.File.{File}
 use Rattle.definition.specs.declared.Definition.{Definition}
-use Rattle.layout.specs.Layout.{field-offset, record-length, store-size, image-length}
+use Rattle.records.specs.Records.{field-offset, record-length}
+use Rattle.layout.specs.Layout.{store-size, image-length}
 use Rattle.validity.specs.Validity.{valid}
 use Rattle.validity.specs.Laws.{valid-at}
 use Rattle.entries.specs.Entries.{entries}
-use Rattle.lists.specs.Folds.{any-agree, any-true}
-use Rattle.store.specs.Store.{get as get-record, field-value, elsewhere, file-part}
+use Rattle.store.specs.Store.{get as get-record, field-value, file-part}
+use Rattle.search.specs.Search.{elsewhere}
 use Rattle.store.specs.Laws.{some-has, has-fits, fits-least, fits-most}
-use Rattle.store.specs.Finding.{Elsewhere, elsewhere-true, elsewhere-false}
+use Rattle.search.specs.Laws.{Elsewhere, elsewhere-true, elsewhere-false}
 use Rattle.images.specs.Images.{image-has}
 use Rattle.transactions.specs.Slots.{Slot}
 use Rattle.transactions.specs.Machine.{held-by-other, clash, taken}

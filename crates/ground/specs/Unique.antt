@@ -15,8 +15,9 @@ use Rattle.definition.specs.Table.{field-at, field-count}
 use Rattle.definition.specs.Shape.{FileShape}
 use Rattle.definition.specs.declared.File.{File}
 use Rattle.definition.specs.declared.Definition.{Definition}
-use Rattle.layout.specs.Layout.{field-length, field-offset, record-length, image-length}
-use Rattle.layout.specs.Laws.{field-within}
+use Rattle.records.specs.Records.{field-length, field-offset, record-length}
+use Rattle.layout.specs.Layout.{image-length}
+use Rattle.records.specs.Laws.{field-within}
 use Rattle.entries.specs.Entries.{entries}
 use Rattle.entries.specs.declared.Entry.{Entry}
 use Rattle.lists.specs.Numbers.{numbers, each-number}

@@ -18,14 +18,15 @@ use Rattle.definition.specs.Shape.{DefinitionShape, file-shape-at}
 use Rattle.definition.specs.declared.File.{File}
 use Rattle.layout.specs.Layout.{store-size, place}
 use Rattle.layout.specs.Laws.{place-found}
-use Rattle.layout.specs.declared.Found.{Found}
-use Rattle.layout.specs.declared.Found.the-variants as found-at
+use Rattle.records.specs.declared.Found.{Found}
+use Rattle.records.specs.declared.Found.the-variants as found-at
 use Rattle.lists.specs.Numbers.{from-to, each-number}
-use Rattle.store.specs.Store.{first-of, record-of, lowest}
+use Rattle.search.specs.Search.{first-of, lowest}
+use Rattle.store.specs.Store.{record-of}
 use Rattle.store.specs.Store as records
-use Rattle.store.specs.Finding.{lowest-found}
-use Rattle.store.specs.declared.Occupied.{Occupied}
-use Rattle.store.specs.declared.Occupied.the-variants.{At, Nowhere}
+use Rattle.search.specs.Laws.{lowest-found}
+use Rattle.search.specs.declared.Occupied.{Occupied}
+use Rattle.search.specs.declared.Occupied.the-variants.{At, Nowhere}
 use Rattle.ground.specs.Keys.{isn-bound, key, file-of, file-of-key, isn-of-key, known, known-here}
 use Rattle.ground.specs.Store.{get}
 use Rattle.ground.specs.StoreLaws.{get-key}

@@ -8,17 +8,16 @@ use mathlib.Core.List.{List, [], _∷_}
 use mathlib.Core.Option.{some}
 use lib.Dec.{eqb}
 use Rattle.lists.specs.Tests.{eqb-self}
-use Rattle.lists.specs.Folds.{any}
+use Rattle.lists.specs.Folds.{any, any-agree}
 use Rattle.lists.specs.Sift.{any-sift}
 use Rattle.definition.specs.Table.{field-at, field-count, is-unique}
 use Rattle.definition.specs.Shape.{DefinitionShape}
 use Rattle.definition.specs.declared.Definition.{Definition}
-use Rattle.layout.specs.Layout.{record-length}
+use Rattle.records.specs.Records.{record-length}
 use Rattle.layout.specs.Laws.{place-found}
 use Rattle.validity.specs.Validity.{valid}
 use Rattle.elements.specs.Elements.{places}
 use Rattle.lists.specs.Numbers.{numbers}
-use Rattle.lists.specs.Folds.{any-agree}
 use Rattle.store.specs.Store.{field-value}
 use Rattle.transactions.specs.Machine as machine
 use Rattle.ground.specs.Keys.{key, key-file, key-isn, Known, file-of-key, isn-of-key}

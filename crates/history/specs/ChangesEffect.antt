@@ -11,7 +11,7 @@ use lib.Seq.{map-set-same}
 use Rattle.lists.specs.Folds.{all}
 use Rattle.definition.specs.declared.Definition.{Definition}
 use Rattle.layout.specs.Layout.{store-size, place}
-use Rattle.layout.specs.declared.Found.the-variants as found-at
+use Rattle.records.specs.declared.Found.the-variants as found-at
 use Rattle.store.specs.Store.{record-of}
 use Rattle.queue.specs.Queue.{mark as mark-entry, change}
 use Rattle.entries.specs.Entries.{entries}
@@ -19,7 +19,7 @@ use Rattle.entries.specs.Laws.{no-entry}
 use Rattle.queue.specs.Laws.{entries-change}
 use Rattle.entries.specs.declared.Entry.{Entry}
 use Rattle.queue.specs.declared.Lookup.the-variants.{Held}
-use Rattle.hold.specs.Hold.{settled, first-change-queue}
+use Rattle.changes.specs.Changes.{settled, first-change-queue}
 use Rattle.transactions.specs.Slots.{Slot}
 use Rattle.transactions.specs.Machine.{Entry as MachineEntry, with-hold, mark}
 use Rattle.ground.specs.Lists.{all-over}

@@ -14,7 +14,8 @@ use Rattle.definition.specs.Table.{file-at, fields-of}
 use Rattle.definition.specs.Shape.{DefinitionShape}
 use Rattle.definition.specs.declared.Definition.{Definition}
 use Rattle.definition.specs.declared.File.{File}
-use Rattle.layout.specs.Layout.{record-length, slot-offset, store-size}
+use Rattle.records.specs.Records.{record-length, slot-offset}
+use Rattle.layout.specs.Layout.{store-size}
 use Rattle.fields.specs.Fields.{write-fields, nulls, null-record}
 use Rattle.fields.specs.Laws.{nulls-length, write-fields-length, null-record-length}
 use Rattle.lists.specs.Parts.{length-piece}

@@ -11,8 +11,8 @@ use borrow.Author.Tests.{not-true}
 use Rattle.lists.specs.Tests.{and-left, and-right}
 use Rattle.lists.specs.Sift.{sift}
 use Rattle.definition.specs.declared.Definition.{Definition}
-use Rattle.images.specs.Images.{stays}
-use Rattle.images.specs.declared.Removal.the-variants.{All}
+use Rattle.removal.specs.Removal.{stays}
+use Rattle.removal.specs.declared.Removal.the-variants.{All}
 use Rattle.entries.specs.declared.Entry.{Entry}
 use Rattle.transactions.specs.Machine.{Laws, Machine, end, back-out, allowed}
 use Rattle.transactions.specs.Theorems.{kept-act}

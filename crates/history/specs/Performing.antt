@@ -9,7 +9,7 @@ use lib.ListN.{length, set}
 use borrow.Author.Tests.{not-true, le-ltb, ltb-false, le-leb}
 use Rattle.lists.specs.Tests.{cond, Outcome, holds, fails, outcome}
 use Rattle.lists.specs.Folds.{all}
-use Rattle.images.specs.declared.Removal.the-variants.{All}
+use Rattle.removal.specs.declared.Removal.the-variants.{All}
 use Rattle.nucleus.specs.Users.{default-time-limit, or-default, fresh-user, is-due, started, ended, counted, set-session, closed}
 use Rattle.nucleus.specs.Nucleus.{Nucleus, Request, max-users, max-et-data, beyond-data, data-at, with-user, with-state, user-of, change-user}
 use Rattle.nucleus.specs.WellMade.{data-made}

@@ -12,10 +12,10 @@ use Rattle.queue.specs.Queue.{holder}
 use Rattle.entries.specs.declared.Entry.{Entry}
 use Rattle.queue.specs.declared.Lookup.{Lookup}
 use Rattle.queue.specs.declared.Lookup.the-variants.{Held, Free}
-use Rattle.images.specs.Images.{stays, fits}
-use Rattle.images.specs.Laws.{entries-remove}
-use Rattle.images.specs.declared.Removal.{Removal}
-use Rattle.images.specs.declared.Removal.the-variants.{One, Unchanged}
+use Rattle.removal.specs.Removal.{stays, fits}
+use Rattle.removal.specs.Laws.{entries-remove}
+use Rattle.removal.specs.declared.Removal.{Removal}
+use Rattle.removal.specs.declared.Removal.the-variants.{One, Unchanged}
 use Rattle.transactions.specs.Machine.{Entry as MachineEntry, of-user, at-key}
 use Rattle.ground.specs.Keys.{isn-bound, key}
 use Rattle.ground.specs.Queue.{queue-of, Made}

@@ -12,7 +12,7 @@ use lib.ListN.{length, drop, set, length-set}
 use lib.Seq.{drop-set-lt}
 use borrow.Author.Tests.{ltb-true}
 use Rattle.lists.specs.Tests.{cond, within, within-least, within-most, and-left, and-right, Outcome, holds, fails, outcome}
-use Rattle.lists.specs.Folds.{all, distinct, Each, each-at, each-take}
+use Rattle.lists.specs.Folds.{all, distinct, Each, each-at, each-take, each-replicate, each-set}
 use Rattle.definition.specs.Table.{max-fields, max-files, max-length, no-field, no-file, beyond, no-definition, fields-of, files-of, field-count, file-count, named-alike}
 use Rattle.definition.specs.Shape.{FieldShape, FileShape, DefinitionShape}
 use Rattle.definition.specs.declared.Format.{Format}
@@ -20,12 +20,13 @@ use Rattle.definition.specs.declared.Format.the-variants.{Alphanumeric, Binary,
 use Rattle.definition.specs.declared.Field.{Field}
 use Rattle.definition.specs.declared.File.{File}
 use Rattle.definition.specs.declared.Definition.{Definition}
-use Rattle.lists.specs.Folds.{each-replicate, each-set}
-use Rattle.validity.specs.Validity.{capital, digit, name-valid, field-valid, file-valid, valid}
-use Rattle.validity.specs.Laws.{valid-file}
-use Rattle.reading.specs.Grammar.{item-of, room-for-file, add-file, last-file, room-for-field, with-field, add-field, broken, proceed, read-from, read-table}
-use Rattle.reading.specs.declared.Item.{Item}
-use Rattle.reading.specs.declared.Item.the-variants.{File as item-file, Field as item-field, End as item-end, Broken as item-broken}
+use Rattle.file_validity.specs.FileValidity.{capital, digit, name-valid, field-valid, file-valid}
+use Rattle.validity.specs.Validity.{valid}
+use Rattle.file_validity.specs.Laws.{valid-file}
+use Rattle.items.specs.Items.{item-of}
+use Rattle.reading.specs.Grammar.{room-for-file, add-file, last-file, room-for-field, with-field, add-field, broken, proceed, read-from, read-table}
+use Rattle.items.specs.declared.Item.{Item}
+use Rattle.items.specs.declared.Item.the-variants.{File as item-file, Field as item-field, End as item-end, Broken as item-broken}
 use Rattle.reading.specs.declared.Reading.{Reading}
 use Rattle.history.specs.Lists.{each-parts, each-later}
 

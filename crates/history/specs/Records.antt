@@ -19,8 +19,8 @@ use Rattle.definition.specs.declared.File.{File}
 use Rattle.definition.specs.declared.FieldOption.the-variants.{Unique}
 use Rattle.layout.specs.Layout.{place, file-found, isn-found}
 use Rattle.layout.specs.Laws.{place-found}
-use Rattle.layout.specs.declared.Found.{Found}
-use Rattle.layout.specs.declared.Found.the-variants.{At, Nowhere}
+use Rattle.records.specs.declared.Found.{Found}
+use Rattle.records.specs.declared.Found.the-variants.{At, Nowhere}
 use Rattle.lists.specs.Numbers.{numbers}
 use Rattle.ground.specs.Lists.{in-numbers}
 use Rattle.store.specs.Store as records

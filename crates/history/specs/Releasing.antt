@@ -4,8 +4,8 @@ use Prim.Native.Nat.{ℕ, _<_}
 use mathlib.Core.Path.{_≡_, refl}
 use mathlib.Core.Bool.{true, false}
 use Rattle.queue.specs.Queue.{holder}
-use Rattle.images.specs.declared.Removal.{Removal}
-use Rattle.images.specs.declared.Removal.the-variants.{One, Unchanged}
+use Rattle.removal.specs.declared.Removal.{Removal}
+use Rattle.removal.specs.declared.Removal.the-variants.{One, Unchanged}
 use Rattle.transactions.specs.Machine.{Operation, release, release-all, allowed, act, log}
 use Rattle.transactions.specs.Theorems.{Invariant, kept-act}
 use Rattle.ground.specs.Keys.{isn-bound, key}

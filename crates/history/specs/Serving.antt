@@ -11,7 +11,7 @@ use lib.ListN.{length}
 use borrow.Author.Tests.{eqb-true, not-false}
 use Rattle.lists.specs.Tests.{and-false, cond, Outcome, holds, fails, outcome, within, not-both, and-left, and-right}
 use Rattle.lists.specs.Folds.{all}
-use Rattle.images.specs.declared.Removal.the-variants.{One, Unchanged}
+use Rattle.removal.specs.declared.Removal.the-variants.{One, Unchanged}
 use Rattle.nucleus.specs.Commands.{one-of, has-option, blank, option-I, option-H, option-A}
 use Rattle.nucleus.specs.Responses.{number}
 use Rattle.nucleus.specs.Nucleus.{Nucleus, Request, Result, max-users, max-et-data, user-of}

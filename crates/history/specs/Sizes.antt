@@ -19,10 +19,11 @@ use Rattle.entries.specs.Laws.{Shape, length-entries}
 use Rattle.entries.specs.declared.Entry.{Entry}
 use Rattle.queue.specs.Queue.{holder, append, change}
 use Rattle.queue.specs.declared.Lookup.the-variants.{Free}
-use Rattle.images.specs.Closing.{set-count-most, closed, closed-rest, length-closed}
-use Rattle.images.specs.Images.{stays, staying, remove-queue, remove-images, remove-count}
-use Rattle.images.specs.declared.Removal.{Removal}
-use Rattle.hold.specs.Hold.{keep-image, settled, first-change-queue, first-change-images, restore}
+use Rattle.removal.specs.Closing.{set-count-most, closed, closed-rest, length-closed}
+use Rattle.removal.specs.Removal.{stays, staying, remove-queue, remove-images, remove-count}
+use Rattle.removal.specs.declared.Removal.{Removal}
+use Rattle.changes.specs.Changes.{keep-image, settled, first-change-queue, first-change-images}
+use Rattle.hold.specs.Hold.{restore}
 use Rattle.transactions.specs.Slots.{Slot}
 use Rattle.ground.specs.Keys.{known}
 use Rattle.ground.specs.Store.{put}

@@ -16,7 +16,7 @@ use Rattle.definition.specs.Table.{field-at, field-count, fields-of, is-unique}
 use Rattle.definition.specs.Shape.{FileShape, DefinitionShape, file-shape-at}
 use Rattle.definition.specs.declared.File.{File}
 use Rattle.definition.specs.declared.Definition.{Definition}
-use Rattle.layout.specs.Layout.{record-length}
+use Rattle.records.specs.Records.{record-length}
 use Rattle.validity.specs.Validity.{valid}
 use Rattle.fields.specs.Fields.{write-fields, nulls}
 use Rattle.fields.specs.Laws.{nulls-length, write-fields-length, unnamed-kept}

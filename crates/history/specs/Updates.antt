@@ -8,7 +8,7 @@ use lib.Dec.{eqb}
 use lib.ListN.{length}
 use Rattle.lists.specs.Folds.{any}
 use Rattle.definition.specs.declared.Definition.{Definition}
-use Rattle.layout.specs.Layout.{record-length}
+use Rattle.records.specs.Records.{record-length}
 use Rattle.elements.specs.Elements.{places}
 use Rattle.transactions.specs.Slots.{Slot}
 use Rattle.transactions.specs.Machine.{Change as MachineChange}

@@ -1,37 +1,20 @@
--- What becomes of held records: the image kept at the first change, and the back-out (document 01, 'Hold, change, end').
-use Prim.Native.Nat.{ℕ, _+_, _*_}
-use mathlib.Core.Bool.{Bool, _&&_, _||_}
+-- The back-out (document 01, 'Hold, change, end').
+use Prim.Native.Nat.{ℕ, _*_}
+use mathlib.Core.Bool.{Bool, _&&_}
 use mathlib.Core.List.{List, [], _∷_}
 use lib.Dec.{eqb, leb}
-use lib.ListN.{length, getD, take, drop}
-use lib.Seq.{sets}
+use lib.ListN.{length, take, drop}
 use Rattle.lists.specs.Tests.{cond}
 use Rattle.definition.specs.Table.{file-at}
-use Rattle.layout.specs.Layout.{record-length, store-size, place}
+use Rattle.records.specs.Records.{record-length}
+use Rattle.layout.specs.Layout.{store-size, place}
 use Rattle.store.specs.Store.{put-record, empty, file-part, with-part}
-use Rattle.entries.specs.Entries.{unpack-of, entries}
-use Rattle.queue.specs.Queue.{change}
+use Rattle.entries.specs.Entries.{entries}
 use Rattle.definition.specs.declared.File.{File}
 use Rattle.definition.specs.declared.Definition.{Definition}
-use Rattle.layout.specs.declared.Found.{Found}
-use Rattle.layout.specs.declared.Found.the-variants.{At, Nowhere}
+use Rattle.records.specs.declared.Found.{Found}
+use Rattle.records.specs.declared.Found.the-variants.{At, Nowhere}
 use Rattle.entries.specs.declared.Entry.{Entry}
-
--- ---- "Only the first change of an entry keeps an image": the record's bytes at the front of the image of the entry at a place
-unfoldable pub keep-image : List ℕ → ℕ → ℕ → List ℕ → List ℕ
-keep-image images width at content = cond (leb (length content) width && leb ((at + 1) * width) (length images)) (sets images (at * width) content) images
-
--- the entry at a place is changed already, or there is none
-unfoldable pub settled : List ℕ → ℕ → Bool
-settled queue at = leb (length queue) at || unpack-of (getD queue at 0) .changed
-
--- the first change marks the entry; a later one does nothing
-unfoldable pub first-change-queue : List ℕ → ℕ → Bool → List ℕ
-first-change-queue queue at existed = cond (settled queue at) queue (change queue at existed)
-
--- and keeps the record as the entry's image where there is one
-unfoldable pub first-change-images : List ℕ → List ℕ → ℕ → ℕ → Bool → List ℕ → List ℕ
-first-change-images queue images width at existed content = cond (settled queue at) images (cond existed (keep-image images width at content) images)
 
 -- ---- "A back-out puts every changed entry's image back, or makes its ISN empty where no record was"
 -- of one entry, in its file's part of the store

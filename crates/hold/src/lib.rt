@@ -1,75 +1,22 @@
-// What becomes of held records: the image that the first change of an entry keeps, and the back-out that puts images back.
+// The back-out: what a user's changed entries keep is put back in the store, and all his entries go.
 ghost use mathlib.Core.Path.{_≡_};
-ghost use Prim.Native.Nat.{_+_, _*_};
-ghost use lib.Dec.{leb};
 ghost use Rattle.layout.specs.Layout.{image-length};
 ghost use Rattle.entries.specs.Entries.{unpack-of};
-ghost use Rattle.images.specs.Images.{remove-queue, remove-images, remove-count};
-ghost use Rattle.images.specs.declared.Removal.the-variants.{All};
-ghost use Rattle.hold.specs.Hold.{keep-image, first-change-queue, first-change-images, put-back-in, put-back, put-back-of, restore};
+ghost use Rattle.removal.specs.Removal.{remove-queue, remove-images, remove-count};
+ghost use Rattle.removal.specs.declared.Removal.the-variants.{All};
+ghost use Rattle.hold.specs.Hold.{put-back-in, put-back, put-back-of, restore};
 use definition::Definition;
 use definition::File;
 use entries::Entry;
-use images::Removal;
-use layout::Found;
-
-// Whether the block at a place, of `width` bytes like those before it, ends within `length` bytes.
-fn fits_at(at: usize, width: usize, length: usize) -> bool
-    ensures { λ r. ⌜ r ≡ leb ((at + 1) * width) length ⌝ }
-{
-    if width == 0 {
-        return true;
-    }
-    at < length / width
-}
-
-// Keeps a record's bytes as the image of the entry at a place; changes nothing where they do not fit.
-fn keep_image(images: &mut [u8], width: usize, at: usize, content: &[u8])
-    ensures { λ _. ⌜ now (images .exit) ≡ keep-image (now (images .entry)) width at (now (content .entry)) ⌝ }
-{
-    let n = content.len();
-    if width < n {
-        return;
-    }
-    if !fits_at(at, width, images.len()) {
-        return;
-    }
-    let start = at * width;
-    slices::copy(content, &mut images[start..start + n]);
-}
-
-// What the first change of the entry at a place does to queue and images: the entry is changed from now on, and where there is a record it is
-// kept as the entry's image. A later change keeps the old image.
-pub fn first_change(
-    queue: &mut [u64],
-    images: &mut [u8],
-    width: usize,
-    at: usize,
-    existed: bool,
-    content: &[u8],
-)
-    ensures { λ _. ⌜ now (queue .exit) ≡ first-change-queue (now (queue .entry)) at existed ⌝ }
-    ensures { λ _. ⌜ now (images .exit) ≡ first-change-images (now (queue .entry)) (now (images .entry)) width at existed (now (content .entry)) ⌝ }
-{
-    if queue.len() <= at {
-        return;
-    }
-    let e = entries::unpack(queue[at]);
-    if e.changed {
-        return;
-    }
-    queue::change(queue, at, existed);
-    if existed {
-        keep_image(images, width, at, content);
-    }
-}
+use records::Found;
+use removal::Removal;
 
 // One entry's record as it was before the entry's first change, in its file's part of the store.
 fn put_back_in(f: File, e: Entry, image: &[u8], part: &mut [u8])
     ensures { λ _. ⌜ now (part .exit) ≡ put-back-in f e (now (image .entry)) (now (part .entry)) ⌝ }
 {
     if e.existed {
-        let n = slices::least(layout::record_length(f), image.len());
+        let n = slices::least(records::record_length(f), image.len());
         store::put_record(f, part, e.isn, &image[..n]);
         return;
     }
@@ -145,5 +92,5 @@ pub fn back_out(
 {
     let width = layout::image_length(d);
     restore(d, width, user, queue, images, count, store);
-    images::remove(queue, images, count, width, Removal::All { user })
+    removal::remove(queue, images, count, width, Removal::All { user })
 }

@@ -1,69 +1,26 @@
--- Laws of the layout: fields of a record, slots of a file and files of the store follow one another without overlap, and end where the whole ends;
--- what `place` finds.
+-- Laws of the layout: slots of different files and ISNs do not overlap, and end where the store ends; what `place` finds.
 -- Assumes nothing.
 use Prim.Native.Nat.{ℕ, zero, suc, _+_, _-_, _≤_, _<_}
-use native.Mathlib.Nat.{mul-le-mul-right, le-of-suc-le-suc}
+use native.Mathlib.Nat.{le-of-suc-le-suc}
 use native.Mathlib.Numerals.{add-one}
 use native.Mathlib.Omega.{arith}
 use mathlib.Core.Path.{_≡_, sym, ap, _∙_}
 use mathlib.Core.List.{List, [], _∷_}
 use mathlib.Core.Logic.{_⊎_, inl, inr}
 use lib.Dec.{eqb, ltb}
-use lib.ListN.{length, take, getD}
-use lib.Seq.{getD-take, length-take-le, take-all}
+use lib.ListN.{length, getD}
+use lib.Seq.{getD-take, length-take-le}
 use borrow.Author.Tests.{ltb-true, ltb-false, eqb-true, eq-eqb}
 use Rattle.lists.specs.Tests.{Outcome, holds, fails, outcome}
-use Rattle.lists.specs.Folds.{total, total-take, total-next}
-use Rattle.definition.specs.Table.{no-field, beyond, field-at, file-at, field-count, file-count, files-of}
-use Rattle.definition.specs.Shape.{FileShape, DefinitionShape}
-use Rattle.layout.specs.Layout.{field-length, field-offset, record-length, slot-length, slot-offset, file-size, file-offset, slot-start, store-size, seek, place}
+use Rattle.definition.specs.Table.{beyond, file-at, file-count, files-of}
+use Rattle.definition.specs.Shape.{DefinitionShape}
+use Rattle.records.specs.Records.{slot-length, file-size}
+use Rattle.layout.specs.Layout.{file-offset, slot-start, store-size, seek, place}
 use Rattle.definition.specs.declared.File.{File}
 use Rattle.definition.specs.declared.Definition.{Definition}
-use Rattle.layout.specs.declared.Found.the-variants.{At, Nowhere}
-
--- ---- one law for what lies in a row: a part and its element end before any later part, and within the whole
-module _ {A : Type 0} (size : A → ℕ) (n : ℕ) (l : List A) (d : A) (fits : n ≤ length l) where
-  row-next : (k : ℕ) → k < n → total size (take (suc k) (take n l)) ≡ total size (take k (take n l)) + size (getD l k d)
-  row-next k h =
-      let m : k < length (take n l) = omega (arith, length-take-le n l fits) in
-      total-next size k (take n l) d m ∙ ap (λ x. total size (take k (take n l)) + size x) (getD-take n l k d h)
-
-  row-before : (k j : ℕ) → k < n → k < j → total size (take k (take n l)) + size (getD l k d) ≤ total size (take j (take n l))
-  row-before k j h b = omega (arith, row-next k h, total-take size (suc k) j (take n l) b)
-
-  row-within : (k : ℕ) → k < n → total size (take k (take n l)) + size (getD l k d) ≤ total size (take n l)
-  row-within k h =
-      omega (arith, row-before k n h h, ap (total size) (take-all n (take n l) (omega (arith, length-take-le n l fits))))
-
--- ---- fields of a record
-module _ (f : File) (s : FileShape f) where
-  places-fields : field-count f ≤ length (f .fields)
-  places-fields = omega (arith, s .places)
-
-  pub field-before : (k j : ℕ) → k < field-count f → k < j → field-offset f k + field-length (field-at f k) ≤ field-offset f j
-  unfolding field-offset
-  field-before k j h b = row-before field-length (field-count f) (f .fields) no-field places-fields k j h b
-
-  -- a field ends where the next one begins
-  pub field-follows : (k : ℕ) → k < field-count f → field-offset f (k + 1) ≡ field-offset f k + field-length (field-at f k)
-  unfolding field-offset
-  field-follows k h = rw (add-one k) (row-next field-length (field-count f) (f .fields) no-field places-fields k h)
-
-  pub field-within : (k : ℕ) → k < field-count f → field-offset f k + field-length (field-at f k) ≤ record-length f
-  unfolding field-offset record-length
-  field-within k h = row-within field-length (field-count f) (f .fields) no-field places-fields k h
-
--- ---- slots of a file
-module _ (f : File) where
-  pub slot-before : (n m : ℕ) → 1 ≤ n → n < m → slot-offset f n + slot-length f ≤ slot-offset f m
-  slot-before n m p h =
-      let e : (n - 1) + 1 ≤ m - 1 = omega arith in
-      omega (arith, mul-le-mul-right (slot-length f) e)
-
-  pub slot-within : (n : ℕ) → 1 ≤ n → n ≤ f .«max_isn» → slot-offset f n + slot-length f ≤ file-size f
-  slot-within n p h =
-      let e : (n - 1) + 1 ≤ f .«max_isn» = omega arith in
-      omega (arith, mul-le-mul-right (slot-length f) e)
+use Rattle.records.specs.declared.Found.the-variants.{At, Nowhere}
+use Rattle.records.specs.Laws.{slot-before, slot-within}
+use Rattle.lists.specs.Rows.{row-next, row-before, row-within}
 
 -- ---- files of the store, and slots of different files and ISNs
 module _ (d : Definition) (s : DefinitionShape d) where

@@ -1,40 +1,17 @@
--- Where records and fields lie (document 01, 'Store': "files in table order, ISNs rising; each ISN has one byte, 1 for a record and any other
--- for none, then the width").
-use Prim.Native.Nat.{ℕ, _+_, _-_, _*_}
+-- Where files lie in the store, and their places by number (document 01, 'Store': "files in table order, ISNs rising").
+use Prim.Native.Nat.{ℕ, _+_}
 use mathlib.Core.List.{List, [], _∷_}
 use lib.Dec.{eqb}
 use lib.ListN.{take}
 use mathlib.Core.Bool.{Bool, false}
 use Rattle.lists.specs.Tests.{cond, within}
 use Rattle.lists.specs.Folds.{total, maximum}
-use Rattle.definition.specs.Table.{beyond, file-at, fields-of, files-of}
-use Rattle.definition.specs.declared.Field.{Field}
+use Rattle.definition.specs.Table.{beyond, file-at, files-of}
 use Rattle.definition.specs.declared.File.{File}
 use Rattle.definition.specs.declared.Definition.{Definition}
-use Rattle.layout.specs.declared.Found.{Found}
-use Rattle.layout.specs.declared.Found.the-variants.{At, Nowhere}
-
-abbrev pub field-length : Field → ℕ
-field-length f = f .length
-
--- where the k-th field, from 0, begins in its record
-unfoldable pub field-offset : File → ℕ → ℕ
-field-offset f k = total field-length (take k (fields-of f))
-
--- document 01's width
-unfoldable pub record-length : File → ℕ
-record-length f = total field-length (fields-of f)
-
--- the bytes of one ISN: the byte that says whether there is a record, then the record
-abbrev pub slot-length : File → ℕ
-slot-length f = record-length f + 1
-
--- where the slot of an ISN, from 1, begins in its file
-abbrev pub slot-offset : File → ℕ → ℕ
-slot-offset f isn = (isn - 1) * slot-length f
-
-abbrev pub file-size : File → ℕ
-file-size f = f .«max_isn» * slot-length f
+use Rattle.records.specs.declared.Found.{Found}
+use Rattle.records.specs.declared.Found.the-variants.{At, Nowhere}
+use Rattle.records.specs.Records.{record-length, slot-offset, file-size}
 
 -- where the first slot of the i-th file, from 0, begins in the store
 unfoldable pub file-offset : Definition → ℕ → ℕ

@@ -7,3 +7,5 @@ pub mod Sift
 pub mod Numbers
 pub mod Parts
 pub mod Pieces
+pub mod Copies
+pub mod Rows

@@ -4,10 +4,10 @@ use Prim.Native.Nat.{ℕ, zero, suc, _+_, max}
 use mathlib.Core.Bool.{true}
 use Rattle.lists.specs.Tests.{cond}
 use Rattle.layout.specs.Layout.{image-length}
-use Rattle.images.specs.Images.{remove-queue, remove-images, remove-count}
+use Rattle.removal.specs.Removal.{remove-queue, remove-images, remove-count}
 use Rattle.hold.specs.Hold.{restore}
-use Rattle.images.specs.declared.Removal.{Removal}
-use Rattle.images.specs.declared.Removal.the-variants.{All}
+use Rattle.removal.specs.declared.Removal.{Removal}
+use Rattle.removal.specs.declared.Removal.the-variants.{All}
 use Rattle.nucleus.specs.Users.{is-due, ended, marked}
 use Rattle.nucleus.specs.Nucleus.{Nucleus, max-users, with-clock, with-count, with-state, with-store, user-of, change-user}
 

@@ -10,13 +10,13 @@ use Rattle.elements.specs.Elements.{length-needed}
 use Rattle.fields.specs.Fields.{read-fields}
 use Rattle.store.specs.Store.{record-of, put-record, empty}
 use Rattle.queue.specs.Queue.{append}
-use Rattle.hold.specs.Hold.{first-change-queue, first-change-images}
-use Rattle.layout.specs.declared.Found.{Found}
-use Rattle.layout.specs.declared.Found.the-variants.{At, Nowhere}
+use Rattle.changes.specs.Changes.{first-change-queue, first-change-images}
+use Rattle.records.specs.declared.Found.{Found}
+use Rattle.records.specs.declared.Found.the-variants.{At, Nowhere}
 use Rattle.entries.specs.declared.Entry.{Entry}
 use Rattle.queue.specs.declared.Lookup.{Lookup}
 use Rattle.queue.specs.declared.Lookup.the-variants.{Held, Free}
-use Rattle.images.specs.declared.Removal.the-variants.{One, Unchanged, All}
+use Rattle.removal.specs.declared.Removal.the-variants.{One, Unchanged, All}
 use Rattle.nucleus.specs.Commands.{option-A}
 use Rattle.nucleus.specs.Users.{max-sequence, set-session, closed, counted, started, ended}
 use Rattle.nucleus.specs.Responses.{good}

@@ -10,19 +10,25 @@ use lib.ListN.{replicate}
 use Rattle.lists.specs.Folds.{Each}
 use Rattle.lists.specs.Numbers.{numbers}
 use Rattle.definition.specs.declared.Format.the-variants.{Packed}
-use Rattle.layout.specs.Layout.{record-length, field-offset, file-offset, store-size, image-length, place}
-use Rattle.validity.specs.Validity.{valid, file-valid, field-valid, name-valid}
-use Rattle.reading.specs.Grammar.{format-of, option-of, file-item, field-item, item-of, read-from, read-table}
+use Rattle.records.specs.Records.{record-length, field-offset}
+use Rattle.layout.specs.Layout.{file-offset, store-size, image-length, place}
+use Rattle.validity.specs.Validity.{valid}
+use Rattle.file_validity.specs.FileValidity.{file-valid, field-valid, name-valid}
+use Rattle.items.specs.Items.{format-of, option-of, file-item, field-item, item-of}
+use Rattle.reading.specs.Grammar.{read-from, read-table}
 use Rattle.values.specs.Values.{stored, allowed, null-value, below-zero}
 use Rattle.elements.specs.Elements.{field-named, format-valid, element, places, named-twice, length-needed, needed-within}
 use Rattle.fields.specs.Fields.{fits, read-fields, write-fields, values-allowed, null-record}
-use Rattle.store.specs.Store.{slot-fits, has-record, get, lowest, elsewhere, put-record, empty, fresh, file-part, with-part}
+use Rattle.store.specs.Store.{slot-fits, has-record, get, put-record, empty, fresh, file-part, with-part}
+use Rattle.search.specs.Search.{lowest, elsewhere}
 use Rattle.entries.specs.Entries.{pack-of, unpack-of, entries}
 use Rattle.queue.specs.Queue.{holder, held-by, append, change}
 use Rattle.repeats.specs.Repeats.{repeated}
-use Rattle.images.specs.Closing.{closed}
-use Rattle.images.specs.Images as images
-use Rattle.hold.specs.Hold.{keep-image, settled, first-change-queue, first-change-images, put-back-in, put-back, restore}
+use Rattle.removal.specs.Closing.{closed}
+use Rattle.images.specs.Images.{image-has}
+use Rattle.removal.specs.Removal.{remove-queue, remove-images, remove-count}
+use Rattle.changes.specs.Changes.{keep-image, settled, first-change-queue, first-change-images}
+use Rattle.hold.specs.Hold.{put-back-in, put-back, restore}
 use Rattle.nucleus.specs.Text.{text}
 use Rattle.nucleus.specs.Commands.{commands, place-of, code, command-of, has-option, blank, option-H}
 use Rattle.nucleus.specs.Nucleus.{Nucleus}
@@ -182,5 +188,5 @@ rows =
 
 -- a `refl` for each row: one for all rows computes several times as long
 given-as-marked : Each (λ r. r .given-by ≡ r .marked) rows
-unfolding house-table house-calls one-table packed-table given-up-calls changed-twice-calls emptied-calls packed-calls rows record-length field-offset file-offset store-size image-length place valid file-valid field-valid name-valid format-of option-of file-item field-item item-of read-from read-table stored below-zero allowed null-value field-named format-valid element places named-twice length-needed needed-within fits read-fields write-fields values-allowed null-record slot-fits has-record get lowest elsewhere put-record empty fresh file-part with-part pack-of unpack-of entries holder held-by repeated append change closed images.remove-queue images.remove-images images.remove-count images.image-has keep-image settled first-change-queue first-change-images put-back-in put-back restore command-of has-option too-short well-made removed backed-out clocked target rows-first overdue-mark ends-active access-refused file-unknown isn-invalid format-refused field-twice record-length-refused value-refused none-found held-elsewhere presence-refused not-held release-refused file-full limit-reached queue-full new-record value-taken held imaged written erased effect-at perform serve step set-up line
+unfolding house-table house-calls one-table packed-table given-up-calls changed-twice-calls emptied-calls packed-calls rows record-length field-offset file-offset store-size image-length place valid file-valid field-valid name-valid format-of option-of file-item field-item item-of read-from read-table stored below-zero allowed null-value field-named format-valid element places named-twice length-needed needed-within fits read-fields write-fields values-allowed null-record slot-fits has-record get lowest elsewhere put-record empty fresh file-part with-part pack-of unpack-of entries holder held-by repeated append change closed remove-queue remove-images remove-count image-has keep-image settled first-change-queue first-change-images put-back-in put-back restore command-of has-option too-short well-made removed backed-out clocked target rows-first overdue-mark ends-active access-refused file-unknown isn-invalid format-refused field-twice record-length-refused value-refused none-found held-elsewhere presence-refused not-held release-refused file-full limit-reached queue-full new-record value-taken held imaged written erased effect-at perform serve step set-up line
 given-as-marked = (refl, (refl, (refl, (refl, (refl, (refl, (refl, (refl, (refl, (refl, tt))))))))))

@@ -10,12 +10,13 @@ use lib.ListN.{length}
 use Rattle.lists.specs.Tests.{cond, within}
 use Rattle.lists.specs.Folds.{any}
 use Rattle.definition.specs.Table.{field-at, field-count, is-unique}
-use Rattle.layout.specs.Layout.{field-offset}
+use Rattle.records.specs.Records.{field-offset}
 use Rattle.validity.specs.Validity.{valid}
 use Rattle.elements.specs.Elements.{format-valid, named-twice, length-needed, places}
 use Rattle.fields.specs.Fields.{write-fields, values-allowed, null-record}
 use Rattle.lists.specs.Numbers.{numbers}
-use Rattle.store.specs.Store.{record-of, field-value, elsewhere}
+use Rattle.store.specs.Store.{record-of, field-value}
+use Rattle.search.specs.Search.{elsewhere}
 use Rattle.queue.specs.Queue as queue
 use Rattle.images.specs.Images.{image-has}
 use Rattle.nucleus.specs.Commands.{command-of, one-of, has-option, option-I, option-H}

@@ -8,15 +8,16 @@ use Rattle.lists.specs.Tests.{cond}
 use Rattle.lists.specs.Folds.{any}
 use Rattle.layout.specs.Layout.{place, file-found}
 use Rattle.lists.specs.Numbers.{from-to}
-use Rattle.store.specs.Store.{first-of, has-record, lowest, file-part, with-part}
+use Rattle.search.specs.Search.{first-of, lowest}
+use Rattle.store.specs.Store.{has-record, file-part, with-part}
 use Rattle.entries.specs.Entries.{is-of}
 use Rattle.queue.specs.Queue.{holder}
 use Rattle.definition.specs.declared.Definition.{Definition}
 use Rattle.definition.specs.declared.File.{File}
-use Rattle.layout.specs.declared.Found.{Found}
-use Rattle.layout.specs.declared.Found.the-variants as found-at
-use Rattle.store.specs.declared.Occupied.{Occupied}
-use Rattle.store.specs.declared.Occupied.the-variants.{At, Nowhere}
+use Rattle.records.specs.declared.Found.{Found}
+use Rattle.records.specs.declared.Found.the-variants as found-at
+use Rattle.search.specs.declared.Occupied.{Occupied}
+use Rattle.search.specs.declared.Occupied.the-variants.{At, Nowhere}
 use Rattle.queue.specs.declared.Lookup.{Lookup}
 use Rattle.queue.specs.declared.Lookup.the-variants.{Held, Free}
 use Rattle.nucleus.specs.Commands.{one-of, option-I}

@@ -1,6 +1,6 @@
 -- Worked examples: the definitions computed on document 01's own table and on rows that break one rule each, checked by one law a table.
 -- Assumes nothing.
-use Prim.Native.Nat.{ℕ, _+_}
+use Prim.Native.Nat.{ℕ}
 use mathlib.Core.Path.{_≡_, refl}
 use mathlib.Core.Bool.{Bool, true}
 use mathlib.Core.List.{List, [], _∷_, _++_, map}
@@ -8,13 +8,14 @@ use lib.Dec.{eqb}
 use lib.ListN.{set}
 use Rattle.lists.specs.Folds.{all}
 use Rattle.definition.specs.Table.{no-file, no-definition}
-use Rattle.layout.specs.Layout.{record-length, store-size, image-length}
-use Rattle.validity.specs.Validity.{name-valid, field-valid, file-valid, valid}
-use Rattle.reading.specs.Grammar.{format-of, option-of, file-item, field-item, item-of, read-from, read-table}
-use Rattle.definition.specs.declared.Format.the-variants.{Alphanumeric, Binary, Unpacked, Packed}
-use Rattle.definition.specs.declared.FieldOption.the-variants.{Plain, Descriptor, Unique}
-use Rattle.reading.specs.declared.FormatByte.the-variants.{Known as format-known, Unknown as format-unknown}
-use Rattle.reading.specs.declared.OptionByte.the-variants.{Known as option-known, Unknown as option-unknown}
+use Rattle.records.specs.Records.{record-length}
+use Rattle.layout.specs.Layout.{store-size, image-length}
+use Rattle.file_validity.specs.FileValidity.{name-valid, field-valid, file-valid}
+use Rattle.validity.specs.Validity.{valid}
+use Rattle.items.specs.Items.{format-of, option-of, file-item, field-item, item-of}
+use Rattle.reading.specs.Grammar.{read-from, read-table}
+use Rattle.definition.specs.declared.Format.the-variants.{Alphanumeric}
+use Rattle.definition.specs.declared.FieldOption.the-variants.{Plain, Unique}
 use Rattle.reading.specs.declared.End.{End}
 use Rattle.reading.specs.declared.End.the-variants.{At, Broken}
 
@@ -132,15 +133,6 @@ right r = eqb (ends (read-table (r .bytes) .end)) (r .end)
 rows-right : all right rows ≡ true
 unfolding rows right ends named field fields sixteen file files one read-table read-from item-of file-item field-item format-of option-of valid file-valid field-valid name-valid record-length
 rows-right = refl
-
--- ---- what format and option bytes mean
-formats : map format-of (65 ∷ 66 ∷ 85 ∷ 80 ∷ 67 ∷ 97 ∷ []) ≡ format-known Alphanumeric ∷ format-known Binary ∷ format-known Unpacked ∷ format-known Packed ∷ format-unknown ∷ format-unknown ∷ []
-unfolding format-of
-formats = refl
-
-options : map option-of (32 ∷ 68 ∷ 85 ∷ 0 ∷ 100 ∷ []) ≡ option-known Plain ∷ option-known Descriptor ∷ option-known Unique ∷ option-unknown ∷ option-unknown ∷ []
-unfolding option-of
-options = refl
 
 -- ---- an image takes the bytes of the longest record, whichever file has it
 widest : map

@@ -3,8 +3,8 @@
 // printed to the file stdout.
 use definition::Definition;
 use entries::Entry;
-use images::Removal;
 use queue::Lookup;
+use removal::Removal;
 
 fn house() -> Definition {
     let r = reading::read(b"\x01\x01\x00\x03\x02RC\x01AU\x02HH\x02A \x00");
@@ -100,7 +100,7 @@ fn put(store: &mut [u8], isn: u16, content: &[u8]) {
 }
 
 fn keep(queue: &mut [u64], images: &mut [u8], at: usize, existed: bool, content: &[u8]) {
-    hold::first_change(queue, images, 3, at, existed, content);
+    changes::first_change(queue, images, 3, at, existed, content);
     show::text(b"images: ");
     show::line(images);
 }
@@ -117,7 +117,7 @@ fn change(store: &mut [u8], queue: &mut [u64], images: &mut [u8]) {
 
 // RI of ISN 0 by user 2: the images move with their entries.
 fn release(queue: &mut [u64], images: &mut [u8]) {
-    let left = images::remove(queue, images, 3, 3, Removal::Unchanged { user: 2 });
+    let left = removal::remove(queue, images, 3, 3, Removal::Unchanged { user: 2 });
     show::title(b"left", left as u64);
     show::line(images);
     print_entries(queue, left);

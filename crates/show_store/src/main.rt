@@ -2,7 +2,7 @@
 // highest ISN is 3. The part has two bytes more than the file. Each line has the part after a call, or what a call answers. The gate holds what
 // is printed to the file stdout.
 use definition::File;
-use store::Occupied;
+use search::Occupied;
 
 fn house() -> File {
     let r = reading::read(b"\x01\x01\x00\x03\x02RC\x01AU\x02HH\x02A \x00");
@@ -37,7 +37,7 @@ fn has(part: &[u8], isn: u16) {
 // Option `I`: the lowest ISN at or above one that has a record, or response 3.
 fn lowest(part: &[u8], from: u16) {
     show::title(b"lowest", from as u64);
-    let found = store::lowest(house(), part, from);
+    let found = search::lowest(house(), part, from);
     if let Occupied::At(isn) = found {
         show::number(isn as u64);
     } else {
@@ -50,7 +50,7 @@ fn lowest(part: &[u8], from: u16) {
 fn elsewhere(part: &[u8], place: usize, isn: u16, value: &[u8]) {
     show::text(value);
     show::title(b" elsewhere than", isn as u64);
-    show::yes_or_no(store::elsewhere(house(), part, place, isn, value));
+    show::yes_or_no(search::elsewhere(house(), part, place, isn, value));
     show::text(b"\n");
 }
 

@@ -2,7 +2,7 @@
 -- Assumes nothing.
 use Prim.Native.Nat.{ℕ}
 use mathlib.Core.Path.{_≡_, refl}
-use mathlib.Core.Bool.{Bool, true, false}
+use mathlib.Core.Bool.{Bool, true}
 use mathlib.Core.List.{List, [], _∷_, _++_}
 use mathlib.Core.Option.{Option, none, some}
 use lib.ListN.{set}
@@ -11,14 +11,12 @@ use Rattle.definition.specs.Table.{no-file}
 use Rattle.definition.specs.declared.File.{File}
 use Rattle.definition.specs.declared.Format.the-variants.{Alphanumeric}
 use Rattle.definition.specs.declared.FieldOption.the-variants.{Plain, Unique}
-use Rattle.layout.specs.Layout.{field-offset, record-length}
+use Rattle.records.specs.Records.{field-offset, record-length}
 use Rattle.lists.specs.Tests.{eqbs}
-use Rattle.store.specs.Store.{slot-fits, has-record, get, lowest, elsewhere, put-record, empty, fresh}
-use Rattle.store.specs.declared.Occupied.{Occupied}
-use Rattle.store.specs.declared.Occupied.the-variants.{At, Nowhere}
+use Rattle.store.specs.Store.{slot-fits, has-record, get, put-record, empty, fresh}
 
 -- document 01's example: RC unique, 1 byte; HH, 2 bytes; highest ISN 3
-paper : File
+unfoldable pub paper : File
 paper = record {
   number = 1;
   «max_isn» = 3;
@@ -30,21 +28,13 @@ paper = record {
 }
 
 -- records at ISN 1 and 3; the first byte of ISN 2 is no 1
-part : List ℕ
+unfoldable pub part : List ℕ
 part = 1 ∷ 50 ∷ 65 ∷ 66 ∷ 2 ∷ 51 ∷ 67 ∷ 68 ∷ 1 ∷ 52 ∷ 69 ∷ 70 ∷ []
 
 -- ---- what is read, as bytes: a record, or nothing
 bytes : Option (List ℕ) → List ℕ
 bytes none = []
 bytes (some r) = r
-
-at : Occupied → List ℕ
-at (At n) = n ∷ []
-at Nowhere = []
-
-truth : Bool → List ℕ
-truth true = 1 ∷ []
-truth false = []
 
 record Row : Type 0 where
   given : List ℕ
@@ -61,20 +51,6 @@ rows =
     record { given = bytes (get paper (part ++ 1 ∷ 1 ∷ 1 ∷ 1 ∷ []) 4); expected = [] } ∷
     -- a part that is a byte too short has no third slot
     record { given = bytes (get paper (1 ∷ 50 ∷ 65 ∷ 66 ∷ 2 ∷ 51 ∷ 67 ∷ 68 ∷ 1 ∷ 52 ∷ 69 ∷ []) 3); expected = [] } ∷
-    -- the lowest record at or above
-    record { given = at (lowest paper part 0); expected = 1 ∷ [] } ∷
-    record { given = at (lowest paper part 1); expected = 1 ∷ [] } ∷
-    record { given = at (lowest paper part 2); expected = 3 ∷ [] } ∷
-    record { given = at (lowest paper part 3); expected = 3 ∷ [] } ∷
-    record { given = at (lowest paper part 4); expected = [] } ∷
-    record { given = at (lowest paper (fresh paper part) 0); expected = [] } ∷
-    -- a value elsewhere: not at the ISN itself, not where there is no record, not in another field
-    record { given = truth (elsewhere paper part 0 2 (50 ∷ [])); expected = 1 ∷ [] } ∷
-    record { given = truth (elsewhere paper part 0 1 (50 ∷ [])); expected = [] } ∷
-    record { given = truth (elsewhere paper part 0 1 (51 ∷ [])); expected = [] } ∷
-    record { given = truth (elsewhere paper part 1 1 (69 ∷ 70 ∷ [])); expected = 1 ∷ [] } ∷
-    record { given = truth (elsewhere paper part 1 1 (69 ∷ [])); expected = [] } ∷
-    record { given = truth (elsewhere paper part 2 1 []); expected = [] } ∷
     -- writing: a record, one of another width, at an ISN that is none; emptying; set-up
     record { given = put-record paper part 2 (7 ∷ 8 ∷ 9 ∷ []); expected = 1 ∷ 50 ∷ 65 ∷ 66 ∷ 1 ∷ 7 ∷ 8 ∷ 9 ∷ 1 ∷ 52 ∷ 69 ∷ 70 ∷ [] } ∷
     record { given = put-record paper part 2 (7 ∷ 8 ∷ []); expected = part } ∷
@@ -88,5 +64,5 @@ right : Row → Bool
 right r = eqbs (r .given) (r .expected)
 
 rows-right : all right rows ≡ true
-unfolding paper part bytes at truth rows right slot-fits has-record get lowest elsewhere put-record empty fresh field-offset record-length
+unfolding paper part bytes rows right slot-fits has-record get put-record empty fresh field-offset record-length
 rows-right = refl

@@ -12,7 +12,8 @@ use Rattle.lists.specs.Tests.{Outcome, holds, fails, outcome}
 use Rattle.definition.specs.Table.{file-at, file-count}
 use Rattle.definition.specs.Shape.{DefinitionShape}
 use Rattle.definition.specs.declared.Definition.{Definition}
-use Rattle.layout.specs.Layout.{file-size, file-offset, store-size}
+use Rattle.records.specs.Records.{file-size}
+use Rattle.layout.specs.Layout.{file-offset, store-size}
 use Rattle.layout.specs.Laws.{file-before, file-within}
 use Rattle.lists.specs.Parts.{length-piece, Apart}
 use Rattle.lists.specs.Pieces.{length-patch, patch-same, patch-other, patch-behind}

@@ -15,8 +15,8 @@ use borrow.Author.Tests.{ltb-true, ltb-false, eq-eqb, eqb-true}
 use Rattle.lists.specs.Tests.{within-inside, within-least, within-most, Outcome, holds, fails, outcome, and-left, and-right, and-false}
 use Rattle.lists.specs.Folds.{Each}
 use Rattle.definition.specs.declared.File.{File}
-use Rattle.layout.specs.Layout.{record-length, slot-length, slot-offset, file-size}
-use Rattle.layout.specs.Laws.{slot-before}
+use Rattle.records.specs.Records.{record-length, slot-length, slot-offset, file-size}
+use Rattle.records.specs.Laws.{slot-before}
 use Rattle.lists.specs.Numbers.{numbers, each-number}
 use Rattle.lists.specs.Pieces.{piece, patch, length-patch, patch-set, patch-same, patch-other, piece-first, piece-rest, set-other}
 use Rattle.lists.specs.Parts.{length-piece, Apart}

@@ -1,6 +1,5 @@
 pub mod Store
 pub mod Slots
 pub mod Laws
-pub mod Finding
 pub mod Files
 pub mod Examples

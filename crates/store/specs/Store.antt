@@ -1,40 +1,24 @@
 -- Records in the part of the store that belongs to one file (document 01, 'Store': "files in table order, ISNs rising; each ISN has one byte,
 -- 1 for a record and any other for none, then the width").
 use Prim.Native.Nat.{ℕ, _+_, _-_, _*_, _/_, min}
-use mathlib.Core.Bool.{Bool, not, _&&_}
+use mathlib.Core.Bool.{Bool, _&&_}
 use mathlib.Core.List.{List, [], _∷_}
 use mathlib.Core.Option.{Option, none, some}
-use lib.Dec.{eqb, ltb}
+use lib.Dec.{eqb}
 use lib.ListN.{length, getD, set}
-use Rattle.lists.specs.Tests.{cond, within, eqbs}
-use Rattle.lists.specs.Folds.{any}
-use Rattle.definition.specs.Table.{field-at, field-count, file-at}
+use Rattle.lists.specs.Tests.{cond, within}
+use Rattle.definition.specs.Table.{field-at, file-at}
 use Rattle.definition.specs.declared.File.{File}
 use Rattle.definition.specs.declared.Definition.{Definition}
-use Rattle.layout.specs.Layout.{field-length, field-offset, record-length, slot-length, slot-offset, file-size, file-offset}
+use Rattle.records.specs.Records.{field-length, field-offset, record-length, slot-length, slot-offset, file-size}
+use Rattle.layout.specs.Layout.{file-offset}
 use Rattle.lists.specs.Numbers.{from-to}
 use Rattle.lists.specs.Pieces.{piece, patch}
-use Rattle.store.specs.declared.Occupied.{Occupied}
-use Rattle.store.specs.declared.Occupied.the-variants.{At, Nowhere}
 
 -- ---- a row of slots of one size, the first of them at the front of a list of bytes
 -- whether the slot, of those up to the last, has a record
 abbrev pub recorded : ℕ → ℕ → List ℕ → ℕ → Bool
 recorded last size part isn = within 1 last isn && eqb (getD part ((isn - 1) * size) 0) 1
-
--- the first of the ISNs that passes the test
-abbrev pub first-of : (ℕ → Bool) → List ℕ → Occupied
-first-of p [] = Nowhere
-first-of p (isn ∷ isns) = cond (p isn) (At isn) (first-of p isns)
-
--- whether the slot that begins at a place has a record with the value at an offset
-abbrev pub has-field : List ℕ → ℕ → ℕ → List ℕ → Bool
-has-field part at offset value = eqb (getD part at 0) 1 && eqbs (piece (at + 1 + offset) (length value) part) value
-
--- whether the slot is another than the given one, and has a record with the value at an offset
-abbrev pub held : ℕ → ℕ → List ℕ → ℕ → ℕ → List ℕ → ℕ → Bool
-held last size part isn offset value other =
-    not (eqb other isn) && (recorded last size part other && eqbs (piece ((other - 1) * size + 1 + offset) (length value) part) value)
 
 -- 0 in the first byte of each of the slots
 abbrev pub cleared : ℕ → List ℕ → List ℕ → List ℕ
@@ -68,19 +52,6 @@ get f part isn = cond (has-record f part isn) (some (record-of f part isn)) none
 -- the bytes of the field at place k of a record
 abbrev pub field-value : File → ℕ → List ℕ → List ℕ
 field-value f k r = piece (field-offset f k) (field-length (field-at f k)) r
-
--- ---- finding
--- option `I`: "the lowest ISN at or above the given one that has a record"
-unfoldable pub lowest : File → List ℕ → ℕ → Occupied
-lowest f part from = first-of (has-record f part) (isns-from f part from)
-
--- "another record of the file has it in that field": a record at an ISN other than the given one has the value in the field at place k
-abbrev pub has-value : File → List ℕ → ℕ → ℕ → List ℕ → ℕ → Bool
-has-value f part k isn value other =
-    not (eqb other isn) && (has-record f part other && eqbs (field-value f k (record-of f part other)) value)
-
-unfoldable pub elsewhere : File → List ℕ → ℕ → ℕ → List ℕ → Bool
-elsewhere f part k isn value = ltb k (field-count f) && any (has-value f part k isn value) (isns-from f part 1)
 
 -- ---- writing
 -- a record: 1, and then the record

@@ -1,64 +1,27 @@
--- What a valid definition has, for callers: its files' rules one by one, different numbers and names, and sizes.
+-- What a valid definition has, for callers: its files are valid, their numbers differ, and its sizes.
 -- Assumes nothing.
 use Prim.Native.Nat.{ℕ, _≤_, _<_}
 use native.Mathlib.Nat.{mul-le-mul}
 use native.Mathlib.Omega.{arith}
 use mathlib.Core.Path.{_≡_, refl, sym, ap}
-use mathlib.Core.Bool.{true, false}
-use lib.Dec.{ltb, leb}
+use mathlib.Core.Bool.{true}
+use lib.Dec.{ltb}
 use lib.ListN.{length, length-take}
 use lib.Seq.{getD-take, length-take-le}
-use borrow.Author.Tests.{ltb-true, ltb-false, leb-true, eqb-false}
-use Rattle.lists.specs.Tests.{Outcome, holds, fails, outcome, within, within-least, within-most, and-left, and-right}
+use borrow.Author.Tests.{ltb-true, ltb-false, eqb-false}
+use Rattle.lists.specs.Tests.{Outcome, holds, fails, outcome, within, within-least, and-left, and-right}
 use Rattle.lists.specs.Folds.{all, distinct, sound, all-at, distinct-at, each-index, total-most}
-use Rattle.definition.specs.Table.{max-number, max-isn-limit, max-fields, max-files, max-record-length, no-field, beyond, field-at, file-at, field-count, fields-of, file-count, files-of, named-alike, numbered-alike}
-use Rattle.definition.specs.Shape.{FileShape, DefinitionShape}
-use Rattle.definition.specs.declared.File.{File}
+use Rattle.definition.specs.Table.{max-files, beyond, file-at, file-count, files-of, numbered-alike}
+use Rattle.definition.specs.Shape.{DefinitionShape}
 use Rattle.definition.specs.declared.Definition.{Definition}
-use Rattle.layout.specs.Layout.{record-length, slot-length, file-size, store-size, place}
+use Rattle.records.specs.Records.{slot-length, file-size}
+use Rattle.layout.specs.Layout.{store-size, place}
 use Rattle.layout.specs.Laws.{place-found, place-nowhere}
-use Rattle.layout.specs.declared.Found.{Found}
-use Rattle.layout.specs.declared.Found.the-variants.{At, Nowhere}
-use Rattle.validity.specs.Validity.{field-valid, file-valid, valid}
-
--- ---- a valid file
-pub record ValidFile (f : File) : Type 0 where
-  pub number-least : 1 ≤ f .number
-  pub number-most : f .number ≤ max-number
-  pub isn-least : 1 ≤ f .«max_isn»
-  pub isn-most : f .«max_isn» ≤ max-isn-limit
-  pub count-least : 1 ≤ f .count
-  pub count-most : f .count ≤ max-fields
-  pub fields-sound : sound field-valid named-alike (fields-of f) ≡ true
-  pub length-most : record-length f ≤ max-record-length
-
-pub valid-file : (f : File) → file-valid f ≡ true → ValidFile f
-unfolding file-valid
-valid-file f h =
-    let number : within 1 max-number (f .number) ≡ true = search (and-left, and-right) in
-    let isn : within 1 max-isn-limit (f .«max_isn») ≡ true = search (and-left, and-right) in
-    let count : within 1 max-fields (f .count) ≡ true = search (and-left, and-right) in
-    let fields : sound field-valid named-alike (fields-of f) ≡ true = search (and-left, and-right) in
-    let width : leb (record-length f) max-record-length ≡ true = search (and-left, and-right) in
-    record {
-      number-least = within-least 1 max-number (f .number) number;
-      number-most = within-most 1 max-number (f .number) number;
-      isn-least = within-least 1 max-isn-limit (f .«max_isn») isn;
-      isn-most = within-most 1 max-isn-limit (f .«max_isn») isn;
-      count-least = within-least 1 max-fields (f .count) count;
-      count-most = within-most 1 max-fields (f .count) count;
-      fields-sound = fields;
-      length-most = leb-true (record-length f) max-record-length width;
-    }
-
--- no two fields of a valid file have one name
-pub names-apart : (f : File) → FileShape f → ValidFile f → (k j : ℕ) → k < j → j < field-count f → named-alike (field-at f k) (field-at f j) ≡ false
-names-apart f s v k j b h =
-    let places : field-count f ≤ length (f .fields) = omega (arith, s .places) in
-    let m : k < field-count f = omega arith in
-    let apart = and-right (all field-valid (fields-of f)) (distinct named-alike (fields-of f)) (v .fields-sound) in
-    rw (getD-take (field-count f) (f .fields) k no-field m, getD-take (field-count f) (f .fields) j no-field h) at
-    (distinct-at named-alike (fields-of f) no-field apart k j b (omega (arith, length-take-le (field-count f) (f .fields) places)))
+use Rattle.records.specs.declared.Found.{Found}
+use Rattle.records.specs.declared.Found.the-variants.{At, Nowhere}
+use Rattle.file_validity.specs.FileValidity.{file-valid}
+use Rattle.file_validity.specs.Laws.{ValidFile, valid-file}
+use Rattle.validity.specs.Validity.{valid}
 
 -- ---- a valid definition
 module _ (d : Definition) (s : DefinitionShape d) (v : valid d ≡ true) where

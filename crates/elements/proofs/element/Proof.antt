@@ -8,9 +8,6 @@ use borrow.Author.Needs.{needs}
 use Rattle.elements.specs.Steps.{element-name, element-none}
 use Rattle.elements.proofs.element.Statement.{statement}
 use Rattle.elements.proofs.element.Tie as tie
-use Rattle.elements.proofs.element.Reads as reads
-use Rattle.elements.proofs.element.Lts as lts
-use Rattle.elements.proofs.field_named.Reads as field-named-reads
 
 returns : tie.Need-returns
 returns c =

@@ -12,10 +12,6 @@ use Rattle.elements.specs.Elements.{has-name, field-named}
 use Rattle.definition.proofs.Known.{file-known}
 use Rattle.elements.proofs.field_named.Statement.{statement}
 use Rattle.elements.proofs.field_named.Tie as tie
-use Rattle.elements.proofs.field_named.Reads as reads
-use Rattle.elements.proofs.field_named.Lts as lts
-use Rattle.definition.proofs.field_count.Reads as field-count-reads
-use Rattle.definition.proofs.same_name.Reads as same-name-reads
 
 abbrev Inv-loop : tie.InvT-loop
 Inv-loop f name n i₀ i = (i ≤ n) × (first-place (has-name name) (fields-of f) 0 ≡ first-place (has-name name) (drop i (fields-of f)) i)

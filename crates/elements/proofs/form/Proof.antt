@@ -10,8 +10,6 @@ use Rattle.elements.specs.Elements.{form}
 use Rattle.elements.specs.Steps.{form-more, form-last, form-short}
 use Rattle.elements.proofs.form.Statement.{statement}
 use Rattle.elements.proofs.form.Tie as tie
-use Rattle.elements.proofs.form.Reads as reads
-use Rattle.elements.proofs.form.Lts as lts
 
 abbrev Inv-loop : tie.InvT-loop
 Inv-loop format n i₀ i = (n ≡ length format) × (i ≤ n) × (form format ≡ form (drop i format))

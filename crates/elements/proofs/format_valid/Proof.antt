@@ -12,10 +12,6 @@ use Rattle.elements.specs.Elements.{names, form, known, format-valid}
 use Rattle.elements.specs.Steps.{names-more, names-short, element-name}
 use Rattle.elements.proofs.format_valid.Statement.{statement}
 use Rattle.elements.proofs.format_valid.Tie as tie
-use Rattle.elements.proofs.format_valid.Reads as reads
-use Rattle.elements.proofs.format_valid.Lts as lts
-use Rattle.elements.proofs.element.Reads as element-reads
-use Rattle.elements.proofs.form.Reads as form-reads
 
 abbrev Inv-loop : tie.InvT-loop
 Inv-loop f format n i₀ i = (n ≡ length format) × (i ≤ n) × (form format ≡ true) × (all (known f) (names format) ≡ all (known f) (names (drop i format)))

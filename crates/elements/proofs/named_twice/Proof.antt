@@ -13,9 +13,6 @@ use Rattle.elements.specs.Steps.{places-step, places-end}
 use Rattle.elements.specs.Laws.{element-inside, places-below}
 use Rattle.elements.proofs.named_twice.Statement.{statement}
 use Rattle.elements.proofs.named_twice.Tie as tie
-use Rattle.elements.proofs.named_twice.Reads as reads
-use Rattle.elements.proofs.named_twice.Lts as lts
-use Rattle.elements.proofs.element.Reads as element-reads
 
 abbrev Inv-loop : tie.InvT-loop
 Inv-loop f format seen₀ i₀ seen i = (length seen ≡ 16) × (named-twice f format ≡ repeats seen (places f (drop i format)))

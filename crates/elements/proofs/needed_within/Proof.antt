@@ -10,10 +10,6 @@ use Rattle.elements.specs.Elements.{length-of, length-needed, needed-wit
 use Rattle.elements.specs.Steps.{needed-step, needed-end}
 use Rattle.elements.proofs.needed_within.Statement.{statement}
 use Rattle.elements.proofs.needed_within.Tie as tie
-use Rattle.elements.proofs.needed_within.Reads as reads
-use Rattle.elements.proofs.needed_within.Lts as lts
-use Rattle.elements.proofs.element.Reads as element-reads
-use Rattle.elements.proofs.length_of.Reads as length-of-reads
 
 abbrev Inv-loop : tie.InvT-loop
 Inv-loop f format room sum₀ i₀ sum i = (sum ≤ room) × (sum + length-needed f (drop i format) ≡ length-needed f format)

@@ -10,8 +10,8 @@ use Rattle.lists.specs.Parts.{sets-append}
 use Rattle.definition.specs.Table.{field-at, field-count, fields-of}
 use Rattle.definition.specs.Shape.{FileShape, field-next, no-field-left}
 use Rattle.definition.proofs.Known.{file-known}
-use Rattle.layout.specs.Layout.{field-length, field-offset, record-length}
-use Rattle.layout.specs.Laws.{field-follows, field-within}
+use Rattle.records.specs.Records.{field-length, field-offset, record-length}
+use Rattle.records.specs.Laws.{field-follows, field-within}
 use Rattle.values.specs.Values.{null-value}
 use Rattle.values.specs.Laws.{null-length}
 use Rattle.fields.specs.Fields.{nulls, null-record}

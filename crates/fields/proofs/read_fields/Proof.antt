@@ -10,7 +10,7 @@ use Rattle.elements.specs.Elements.{places, length-needed}
 use Rattle.elements.specs.Steps.{places-end, needed-end}
 use Rattle.elements.specs.Laws.{needed-fits, needed-too-long}
 use Rattle.lists.specs.Tests.{and-false}
-use Rattle.layout.specs.Layout.{record-length}
+use Rattle.records.specs.Records.{record-length}
 use Rattle.definition.proofs.Known.{file-known}
 use lib.Seq.{sets, length-sets}
 use Rattle.lists.specs.Parts.{sets-append}

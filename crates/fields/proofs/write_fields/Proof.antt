@@ -10,7 +10,7 @@ use Rattle.elements.specs.Elements.{places, length-needed}
 use Rattle.elements.specs.Steps.{places-end}
 use Rattle.elements.specs.Laws.{needed-fits, needed-too-long}
 use Rattle.lists.specs.Tests.{and-false}
-use Rattle.layout.specs.Layout.{record-length}
+use Rattle.records.specs.Records.{record-length}
 use Rattle.definition.proofs.Known.{file-known}
 use Rattle.fields.specs.Fields.{span-written, write-in, fits, write-fields}
 use Rattle.fields.specs.Steps.{turn-span, turn-inside, needed-turn, write-turn}

@@ -8,9 +8,10 @@ use borrow.Author.Tests.{le-leb, lt-leb}
 use Rattle.definition.specs.Table.{file-at, file-count}
 use Rattle.definition.specs.Shape.{DefinitionShape}
 use Rattle.definition.proofs.Known.{definition-known}
-use Rattle.layout.specs.Layout.{file-size, file-offset, store-size, place}
+use Rattle.records.specs.Records.{file-size}
+use Rattle.layout.specs.Layout.{file-offset, store-size, place}
 use Rattle.layout.specs.Laws.{place-found, file-follows, file-within}
-use Rattle.layout.specs.declared.Found.the-variants.{At}
+use Rattle.records.specs.declared.Found.the-variants.{At}
 use Rattle.store.specs.Store.{file-part, with-part}
 use Rattle.hold.specs.Hold.{put-back}
 use borrow.Author.Needs.{needs}

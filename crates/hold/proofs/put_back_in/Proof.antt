@@ -2,7 +2,7 @@
 -- Assumes nothing.
 use native.Mathlib.Omega.{arith}
 use lib.ListN.{length-take}
-use Rattle.layout.specs.Layout.{record-length}
+use Rattle.records.specs.Records.{record-length}
 use Rattle.hold.specs.Hold.{put-back-in}
 use Rattle.lists.specs.Parts.{take-least}
 use borrow.Author.Needs.{needs}

@@ -1,7 +1,7 @@
 -- `image_has` meets its contract. The loop's invariant: what is sought in the whole queue is sought from here on.
 -- Assumes nothing.
 use mathlib.Core.List.{_∷_}
-use Rattle.images.specs.Turn.{hold-next}
+use Rattle.images.specs.Laws.{hold-next}
 use Prim.Native.Nat.{_+_, _-_, _*_, min}
 use mathlib.Core.Path.{_≡_, sym, ap, _∙_}
 use native.Mathlib.Omega.{arith}

@@ -8,9 +8,10 @@ use lib.ListN.{take, drop}
 use Rattle.lists.specs.Folds.{total}
 use Rattle.lists.specs.Rest.{rest-none, take-min}
 use Rattle.definition.specs.Table.{file-count}
-use Rattle.layout.specs.Layout.{file-size, file-offset}
+use Rattle.records.specs.Records.{file-size}
+use Rattle.layout.specs.Layout.{file-offset}
 use Rattle.definition.specs.Shape.{file-turn, file-shape-at}
-use Rattle.layout.specs.Bounds.{file-size-most}
+use Rattle.records.specs.Bounds.{file-size-most}
 use Rattle.definition.proofs.Known.{definition-known}
 use Rattle.layout.proofs.file_offset.Statement.{statement}
 use Rattle.layout.proofs.file_offset.Tie as tie

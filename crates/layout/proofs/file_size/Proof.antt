@@ -2,7 +2,7 @@
 -- Assumes nothing.
 use native.Mathlib.Omega.{arith}
 use Prim.Native.Nat.{_*_, _≤_}
-use Rattle.layout.specs.Bounds.{file-size-most}
+use Rattle.records.specs.Bounds.{file-size-most}
 use Rattle.definition.proofs.Known.{file-known}
 use borrow.Author.Needs.{needs}
 use Rattle.layout.proofs.file_size.Statement.{statement}

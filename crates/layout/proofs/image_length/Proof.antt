@@ -7,7 +7,8 @@ use borrow.Author.Needs.{needs}
 use lib.ListN.{drop}
 use Rattle.lists.specs.Folds.{maximum}
 use Rattle.definition.specs.Table.{files-of}
-use Rattle.layout.specs.Layout.{record-length, image-length}
+use Rattle.records.specs.Records.{record-length}
+use Rattle.layout.specs.Layout.{image-length}
 use Rattle.definition.specs.Shape.{file-next, no-file-left}
 use Rattle.definition.proofs.Known.{definition-known}
 use Rattle.layout.proofs.image_length.Statement.{statement}

@@ -6,7 +6,8 @@ use lib.ListN.{length-take}
 use lib.Seq.{take-all}
 use Rattle.lists.specs.Folds.{total}
 use Rattle.definition.specs.Table.{files-of, file-count}
-use Rattle.layout.specs.Layout.{file-size, file-offset, store-size}
+use Rattle.records.specs.Records.{file-size}
+use Rattle.layout.specs.Layout.{file-offset, store-size}
 use borrow.Author.Needs.{needs}
 use Rattle.layout.proofs.store_size.Statement.{statement}
 use Rattle.layout.proofs.store_size.Tie as tie

@@ -7,7 +7,7 @@ use borrow.Author.Needs.{needs}
 use borrow.Author.Tests.{lt-ltb, le-ltb, not-true, not-false}
 use lib.ListN.{length}
 use Rattle.lists.specs.Rest.{part-to-end}
-use Rattle.reading.specs.Grammar.{item-of}
+use Rattle.items.specs.Items.{item-of}
 use Rattle.reading.proofs.read.Proof.Unread.{Pending, start, past, at-broken, at-end, file-full, file-more, file-inside, field-full, field-more, field-inside}
 mod Unread
 use Rattle.reading.proofs.read.Statement.{statement}

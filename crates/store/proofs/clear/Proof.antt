@@ -9,8 +9,6 @@ use Rattle.store.specs.Store.{cleared}
 use Rattle.store.specs.Slots.{slot-next, slot-room}
 use Rattle.store.proofs.clear.Statement.{statement}
 use Rattle.store.proofs.clear.Tie as tie
-use Rattle.store.proofs.clear.Reads as reads
-use Rattle.store.proofs.clear.Lts as lts
 
 abbrev Inv-loop : tie.InvT-loop
 Inv-loop part₀ size last at₀ isn₀ part at isn = (1 ≤ isn) × (at ≡ (isn - 1) * size) × (length part ≡ length part₀) × (cleared size (from-to isn last) part ≡ cleared size (from-to 1 last) part₀)

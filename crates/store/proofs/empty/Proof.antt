@@ -8,10 +8,6 @@ use Rattle.store.specs.Store.{slot-fits, empty}
 use Rattle.store.specs.Slots.{slot-inside}
 use Rattle.store.proofs.empty.Statement.{statement}
 use Rattle.store.proofs.empty.Tie as tie
-use Rattle.store.proofs.empty.Reads as reads
-use Rattle.store.proofs.empty.Lts as lts
-use Rattle.layout.proofs.slot_offset.Reads as slot-offset-reads
-use Rattle.store.proofs.slot_fits.Reads as slot-fits-reads
 
 slot-fits-requires : tie.Need-slot-fits-requires
 slot-fits-requires c κs = search needs

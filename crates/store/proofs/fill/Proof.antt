@@ -10,8 +10,6 @@ use lib.ListN.{length, set, length-set}
 use Rattle.lists.specs.Pieces.{patch-set, length-patch}
 use Rattle.store.proofs.fill.Statement.{statement}
 use Rattle.store.proofs.fill.Tie as tie
-use Rattle.store.proofs.fill.Reads as reads
-use Rattle.store.proofs.fill.Lts as lts
 
 -- the part that was lent has as many bytes as were given
 lent : (at n : ℕ) → at + 1 + n - (at + 1) ≡ n

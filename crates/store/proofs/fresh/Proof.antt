@@ -7,11 +7,6 @@ use Rattle.store.specs.Store.{fresh}
 use Rattle.store.specs.Slots.{count-room}
 use Rattle.store.proofs.fresh.Statement.{statement}
 use Rattle.store.proofs.fresh.Tie as tie
-use Rattle.store.proofs.fresh.Reads as reads
-use Rattle.store.proofs.fresh.Lts as lts
-use Rattle.layout.proofs.slot_length.Reads as slot-length-reads
-use Rattle.store.proofs.clear.Reads as clear-reads
-use Rattle.store.proofs.slot_count.Reads as slot-count-reads
 
 slot-length-requires : tie.Need-slot-length-requires
 slot-length-requires c κs = search needs

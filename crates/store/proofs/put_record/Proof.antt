@@ -8,17 +8,11 @@ use borrow.Author.Needs.{needs}
 use borrow.Author.Tests.{eq-eqb, ne-eqb, not-true, not-false}
 use lib.ListN.{length}
 use Rattle.lists.specs.Tests.{and-false}
-use Rattle.layout.specs.Layout.{record-length}
+use Rattle.records.specs.Records.{record-length}
 use Rattle.store.specs.Store.{slot-fits, put-record}
 use Rattle.store.specs.Slots.{slot-inside}
 use Rattle.store.proofs.put_record.Statement.{statement}
 use Rattle.store.proofs.put_record.Tie as tie
-use Rattle.store.proofs.put_record.Reads as reads
-use Rattle.store.proofs.put_record.Lts as lts
-use Rattle.layout.proofs.record_length.Reads as record-length-reads
-use Rattle.layout.proofs.slot_offset.Reads as slot-offset-reads
-use Rattle.store.proofs.fill.Reads as fill-reads
-use Rattle.store.proofs.slot_fits.Reads as slot-fits-reads
 
 -- what was tested: the slot lies within the part, and as many bytes were given as a record has
 inside : (c : tie.After-slot-offset) → slot-fits (c .before .before .before .before .before .before .before .args .f) (c .before .before .before .before .before .before .before .args .part .now) (c .before .before .before .before .before .before .before .args .isn) ≡ true

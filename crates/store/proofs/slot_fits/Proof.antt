@@ -7,24 +7,15 @@ use borrow.Author.Tests.{le-leb}
 use Rattle.lists.specs.Tests.{within-below}
 use Rattle.store.proofs.slot_fits.Statement.{statement}
 use Rattle.store.proofs.slot_fits.Tie as tie
-use Rattle.store.proofs.slot_fits.Reads as reads
-use Rattle.store.proofs.slot_fits.Lts as lts
-use Rattle.layout.proofs.slot_length.Reads as slot-length-reads
-use Rattle.store.proofs.slot_count.Reads as slot-count-reads
 
 returns : tie.Need-returns
 returns c = sym (within-below 1 _ (c .before .args .isn) (omega arith))
-
-slot-length-requires : tie.Need-slot-length-requires
-slot-length-requires c κs = search needs
 
 slot-count-requires : tie.Need-slot-count-requires
 slot-count-requires c κs = search needs
 
 returns-2 : tie.Need-returns-2
-returns-2 c =
-    let l = c .before in
-    rw (le-leb 1 (l .before .before .args .isn) (omega arith), c .slot-count .ensures, l .slot-length .ensures)
+returns-2 c = rw (le-leb 1 (c .before .before .args .isn) (omega arith), c .slot-count .ensures)
 
 pub slot-fits-spec : {M : Type 1} → statement M
-slot-fits-spec = tie.close (tie.spec returns slot-length-requires slot-count-requires returns-2)
+slot-fits-spec = tie.close (tie.spec returns slot-count-requires returns-2)

@@ -8,7 +8,7 @@ use borrow.Author.Tests.{not-true, not-false}
 use lib.ListN.{drop}
 use Rattle.lists.specs.Folds.{sound, sound-more, sound-fails, sound-alike}
 use Rattle.definition.specs.Table.{numbered-alike, files-of}
-use Rattle.validity.specs.Validity.{file-valid}
+use Rattle.file_validity.specs.FileValidity.{file-valid}
 use Rattle.definition.specs.Shape.{file-next, no-file-left}
 use Rattle.definition.proofs.Known.{definition-known}
 use Rattle.validity.proofs.files_valid.Statement.{statement}

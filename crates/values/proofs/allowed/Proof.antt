@@ -4,10 +4,6 @@ use Rattle.values.specs.Values.{allowed}
 use borrow.Author.Needs.{needs}
 use Rattle.values.proofs.allowed.Statement.{statement}
 use Rattle.values.proofs.allowed.Tie as tie
-use Rattle.values.proofs.allowed.Reads as reads
-use Rattle.values.proofs.allowed.Lts as lts
-use Rattle.values.proofs.packed_allowed.Reads as packed-allowed-reads
-use Rattle.values.proofs.unpacked_allowed.Reads as unpacked-allowed-reads
 
 enum-told : tie.Need-enum-told
 enum-told c = search needs

@@ -10,8 +10,6 @@ use Rattle.lists.specs.Rest.{drop-more}
 use Rattle.values.specs.Values.{not-zero, halves}
 use Rattle.values.proofs.any_not_zero.Statement.{statement}
 use Rattle.values.proofs.any_not_zero.Tie as tie
-use Rattle.values.proofs.any_not_zero.Reads as reads
-use Rattle.values.proofs.any_not_zero.Lts as lts
 
 abbrev Inv-loop : tie.InvT-loop
 Inv-loop bytes i₀ i = (i ≤ length bytes) × (any not-zero (halves bytes) ≡ any not-zero (halves (drop i bytes)))

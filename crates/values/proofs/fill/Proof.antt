@@ -8,8 +8,6 @@ use mathlib.Core.List.{_++_}
 use Rattle.lists.specs.Rest.{write-more, write-all}
 use Rattle.values.proofs.fill.Statement.{statement}
 use Rattle.values.proofs.fill.Tie as tie
-use Rattle.values.proofs.fill.Reads as reads
-use Rattle.values.proofs.fill.Lts as lts
 
 abbrev Inv-loop : tie.InvT-loop
 Inv-loop to₀ byte i₀ to i = (i ≤ length to₀) × (to ≡ take i (replicate (length to₀) byte) ++ drop i to₀) × (length to ≡ length to₀)

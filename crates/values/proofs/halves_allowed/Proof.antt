@@ -10,8 +10,6 @@ use Rattle.lists.specs.Rest.{drop-more}
 use Rattle.values.specs.Values.{digit, halves}
 use Rattle.values.proofs.halves_allowed.Statement.{statement}
 use Rattle.values.proofs.halves_allowed.Tie as tie
-use Rattle.values.proofs.halves_allowed.Reads as reads
-use Rattle.values.proofs.halves_allowed.Lts as lts
 
 abbrev Inv-loop : tie.InvT-loop
 Inv-loop bytes i₀ i = (i ≤ length bytes) × (all digit (halves bytes) ≡ all digit (halves (drop i bytes)))

@@ -12,11 +12,6 @@ use Rattle.values.specs.Laws.{all-digits}
 use borrow.Author.Needs.{needs}
 use Rattle.values.proofs.packed_allowed.Statement.{statement}
 use Rattle.values.proofs.packed_allowed.Tie as tie
-use Rattle.values.proofs.packed_allowed.Reads as reads
-use Rattle.values.proofs.packed_allowed.Lts as lts
-use Rattle.values.proofs.halves_allowed.Reads as halves-allowed-reads
-use Rattle.values.proofs.negative_sign.Reads as negative-sign-reads
-use Rattle.values.proofs.positive_sign.Reads as positive-sign-reads
 
 returns : tie.Need-returns
 unfolding allowed

@@ -5,8 +5,6 @@ use borrow.Author.Tests.{ne-eqb}
 use Rattle.values.specs.Values.{positive-sign}
 use Rattle.values.proofs.positive_sign.Statement.{statement}
 use Rattle.values.proofs.positive_sign.Tie as tie
-use Rattle.values.proofs.positive_sign.Reads as reads
-use Rattle.values.proofs.positive_sign.Lts as lts
 
 returns : tie.Need-returns
 returns c = sym (ap positive-sign (c .match .keys1))

@@ -4,9 +4,6 @@ use Rattle.values.specs.Values.{stored}
 use borrow.Author.Needs.{needs}
 use Rattle.values.proofs.put_form.Statement.{statement}
 use Rattle.values.proofs.put_form.Tie as tie
-use Rattle.values.proofs.put_form.Reads as reads
-use Rattle.values.proofs.put_form.Lts as lts
-use Rattle.values.proofs.put_sign.Reads as put-sign-reads
 
 enum-told : tie.Need-enum-told
 enum-told c = search needs

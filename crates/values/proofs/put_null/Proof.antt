@@ -4,11 +4,6 @@ use Rattle.values.specs.Laws.{null-form}
 use borrow.Author.Needs.{needs}
 use Rattle.values.proofs.put_null.Statement.{statement}
 use Rattle.values.proofs.put_null.Tie as tie
-use Rattle.values.proofs.put_null.Reads as reads
-use Rattle.values.proofs.put_null.Lts as lts
-use Rattle.values.proofs.fill.Reads as fill-reads
-use Rattle.values.proofs.null_byte.Reads as null-byte-reads
-use Rattle.values.proofs.put_form.Reads as put-form-reads
 
 null-byte-requires : tie.Need-null-byte-requires
 null-byte-requires c κs = search needs

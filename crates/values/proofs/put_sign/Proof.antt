@@ -11,9 +11,6 @@ use Rattle.definition.specs.declared.Format.the-variants.{Packed}
 use borrow.Author.Needs.{needs}
 use Rattle.values.proofs.put_sign.Statement.{statement}
 use Rattle.values.proofs.put_sign.Tie as tie
-use Rattle.values.proofs.put_sign.Reads as reads
-use Rattle.values.proofs.put_sign.Lts as lts
-use Rattle.values.proofs.stored_sign.Reads as stored-sign-reads
 
 returns : tie.Need-returns
 unfolding stored

@@ -6,9 +6,6 @@ use borrow.Author.Needs.{needs}
 use Rattle.slices.specs.Laws.{copied-whole}
 use Rattle.values.proofs.put_stored.Statement.{statement}
 use Rattle.values.proofs.put_stored.Tie as tie
-use Rattle.values.proofs.put_stored.Reads as reads
-use Rattle.values.proofs.put_stored.Lts as lts
-use Rattle.values.proofs.put_form.Reads as put-form-reads
 
 returns : tie.Need-returns
 returns c = rw (ne-eqb _ _ (c .if1 .taken))

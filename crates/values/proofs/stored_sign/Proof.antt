@@ -13,10 +13,6 @@ use Rattle.values.specs.Laws.{any-digits}
 use borrow.Author.Needs.{needs}
 use Rattle.values.proofs.stored_sign.Statement.{statement}
 use Rattle.values.proofs.stored_sign.Tie as tie
-use Rattle.values.proofs.stored_sign.Reads as reads
-use Rattle.values.proofs.stored_sign.Lts as lts
-use Rattle.values.proofs.any_not_zero.Reads as any-not-zero-reads
-use Rattle.values.proofs.negative_sign.Reads as negative-sign-reads
 
 returns : tie.Need-returns
 unfolding below-zero

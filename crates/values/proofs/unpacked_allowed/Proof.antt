@@ -10,8 +10,6 @@ use Rattle.lists.specs.Rest.{drop-more}
 use Rattle.values.specs.Values.{unpacked-digit}
 use Rattle.values.proofs.unpacked_allowed.Statement.{statement}
 use Rattle.values.proofs.unpacked_allowed.Tie as tie
-use Rattle.values.proofs.unpacked_allowed.Reads as reads
-use Rattle.values.proofs.unpacked_allowed.Lts as lts
 
 abbrev Inv-loop : tie.InvT-loop
 Inv-loop value i₀ i = (i ≤ length value) × (all unpacked-digit value ≡ all unpacked-digit (drop i value))

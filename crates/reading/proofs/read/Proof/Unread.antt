@@ -7,11 +7,12 @@ use Prim.Native.Nat.{ℕ, zero, suc, _+_, _≤_, _<_}
 use native.Mathlib.Omega.{arith}
 use lib.ListN.{length, drop, length-drop, drop-of-length-le}
 use Rattle.definition.specs.Table.{no-definition}
-use Rattle.reading.specs.Laws.{item-fits}
-use Rattle.reading.specs.Grammar.{item-of, room-for-file, room-for-field, add-file, add-field, broken, ended, proceed, read-from, read-table}
+use Rattle.items.specs.Laws.{item-fits}
+use Rattle.items.specs.Items.{item-of}
+use Rattle.reading.specs.Grammar.{room-for-file, room-for-field, add-file, add-field, broken, ended, proceed, read-from, read-table}
 use Rattle.definition.specs.declared.Definition.{Definition}
 use Rattle.definition.specs.declared.Field.{Field}
-use Rattle.reading.specs.declared.Item.the-variants.{File as item-file, Field as item-field, End as item-end, Broken as item-broken}
+use Rattle.items.specs.declared.Item.the-variants.{File as item-file, Field as item-field, End as item-end, Broken as item-broken}
 
 -- ---- reading goes on at `at` with d: enough fuel is left, and what comes of it is the whole reading
 pub record Pending (bytes : List ℕ) (at : ℕ) (d : Definition) : Type 0 where

@@ -1,0 +1,2 @@
+pub mod FileValidity
+pub mod Laws

@@ -1,0 +1,5 @@
+pub mod Closing
+pub mod Removal
+pub mod Turn
+pub mod Laws
+pub mod Examples

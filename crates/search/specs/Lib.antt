@@ -1,0 +1,4 @@
+pub mod Search
+pub mod Slots
+pub mod Laws
+pub mod Examples
