@@ -88,7 +88,7 @@ fn allowed_span(s: Span, values: &[u8], at: usize) -> bool
 {
     let length = s.length;
     let kind = s.format;
-    values::allowed(kind, &values[at..at + length])
+    digits::allowed(kind, &values[at..at + length])
 }
 
 // Puts the null value of its format into a span.

@@ -6,7 +6,7 @@ fn show_packed(value: &[u8]) {
     show::bytes(value);
     show::text(b" ");
     let kind = Format::Packed;
-    if values::allowed(kind, value) {
+    if digits::allowed(kind, value) {
         let mut stored = [0u8; 3];
         values::put_stored(kind, value, &mut stored);
         show::bytes(&stored);

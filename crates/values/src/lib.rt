@@ -1,101 +1,22 @@
-// One value of a field, by the field's format: whether its bytes are allowed, their stored form, and the null value.
+// One value of a field, by the field's format: its stored form, and the null value.
 ghost use mathlib.Core.Path.{_≡_};
 ghost use lib.Dec.{eqb};
 ghost use lib.ListN.{length, replicate};
 ghost use Rattle.lists.specs.Tests.{cond};
-ghost use Rattle.lists.specs.Folds.{all, any};
-ghost use Rattle.values.specs.Values.{unpacked-digit, digit, positive-sign, negative-sign, not-zero, halves, stored-sign, allowed, stored, null-byte, null-value};
+ghost use Rattle.lists.specs.Folds.{any};
+ghost use Rattle.values.specs.Values.{negative-sign, not-zero, halves, stored-sign, stored, null-byte, null-value};
 ghost use Rattle.definition.specs.declared.Format.the-variants.{Packed};
 use definition::Format;
 
-// The greatest digit in a half byte, and the signs with which packed bytes are stored.
-const MAX_DIGIT: u8 = 9;
-
+// The signs with which packed bytes are stored.
 const POSITIVE: u8 = 0xF;
 
 const NEGATIVE: u8 = 0xD;
-
-fn positive_sign(half: u8) -> bool
-    ensures { λ r. ⌜ r ≡ positive-sign half ⌝ }
-{
-    match half {
-        0xC => true,
-        0xF => true,
-        _ => false,
-    }
-}
 
 fn negative_sign(half: u8) -> bool
     ensures { λ r. ⌜ r ≡ negative-sign half ⌝ }
 {
     half == 0xD
-}
-
-fn unpacked_allowed(value: &[u8]) -> bool
-    ensures { λ r. ⌜ r ≡ all unpacked-digit (now (value .entry)) ⌝ }
-{
-    let mut i = 0;
-    while i < value.len() {
-        let byte = value[i];
-        if byte < b'0' {
-            return false;
-        }
-        if byte > b'9' {
-            return false;
-        }
-        i += 1;
-    }
-    true
-}
-
-// Whether both half bytes of each byte are digits.
-fn halves_allowed(bytes: &[u8]) -> bool
-    ensures { λ r. ⌜ r ≡ all digit (halves (now (bytes .entry))) ⌝ }
-{
-    let mut i = 0;
-    while i < bytes.len() {
-        let byte = bytes[i];
-        if byte / 16 > MAX_DIGIT {
-            return false;
-        }
-        if byte % 16 > MAX_DIGIT {
-            return false;
-        }
-        i += 1;
-    }
-    true
-}
-
-fn packed_allowed(value: &[u8]) -> bool
-    ensures { λ r. ⌜ r ≡ allowed Packed (now (value .entry)) ⌝ }
-{
-    let n = value.len();
-    if n == 0 {
-        return false;
-    }
-    if !halves_allowed(&value[..n - 1]) {
-        return false;
-    }
-    let last = value[n - 1];
-    if last / 16 > MAX_DIGIT {
-        return false;
-    }
-    if positive_sign(last % 16) {
-        return true;
-    }
-    negative_sign(last % 16)
-}
-
-// Whether the value has no digit and no sign that its format does not allow.
-pub fn allowed(format: Format, value: &[u8]) -> bool
-    ensures { λ r. ⌜ r ≡ allowed format (now (value .entry)) ⌝ }
-{
-    match format {
-        Format::Alphanumeric => true,
-        Format::Binary => true,
-        Format::Unpacked => unpacked_allowed(value),
-        Format::Packed => packed_allowed(value),
-    }
 }
 
 // Whether a half byte is not zero.

@@ -7,11 +7,11 @@ use lib.ListN.{length}
 use lib.Seq.{length-take-le}
 use borrow.Author.Tests.{not-true, not-false, le-leb, lt-leb}
 use Rattle.lists.specs.Rest.{empty}
 use Rattle.values.specs.Values.{allowed}
 use Rattle.values.specs.Laws.{all-digits}
 use borrow.Author.Needs.{needs}
-use Rattle.values.proofs.packed_allowed.Statement.{statement}
-use Rattle.values.proofs.packed_allowed.Tie as tie
+use Rattle.digits.proofs.packed_allowed.Statement.{statement}
+use Rattle.digits.proofs.packed_allowed.Tie as tie
 
 returns : tie.Need-returns
 unfolding allowed
@@ -49,27 +49,16 @@ returns-3 c =
     let v = h .before .before .before .before .before .args .value .now in
     rw (all-digits v, yes, lt-leb _ 9 (c .if3 .taken))
 
-positive-sign-requires : tie.Need-positive-sign-requires
-positive-sign-requires c κs = search needs
+is-sign-requires : tie.Need-is-sign-requires
+is-sign-requires c κs = search needs
 
 returns-4 : tie.Need-returns-4
 unfolding allowed
 returns-4 c =
-    let h = c .before .before .before .before in
+    let h = c .before .before .before in
     let yes = sym (h .before .halves-allowed .ensures) ∙ not-false _ (h .if2 .left) in
     let v = h .before .before .before .before .before .args .value .now in
-    rw (all-digits v, yes, le-leb _ 9 (c .before .before .if3 .left), sym (c .before .positive-sign .ensures) ∙ c .if4 .taken)
-
-negative-sign-requires : tie.Need-negative-sign-requires
-negative-sign-requires c κs = search needs
-
-returns-5 : tie.Need-returns-5
-unfolding allowed
-returns-5 c =
-    let h = c .before .before .before .before .before in
-    let yes = sym (h .before .halves-allowed .ensures) ∙ not-false _ (h .if2 .left) in
-    let v = h .before .before .before .before .before .args .value .now in
-    rw (all-digits v, yes, le-leb _ 9 (c .before .before .before .if3 .left), sym (c .before .before .positive-sign .ensures) ∙ c .before .if4 .left) (c .negative-sign .ensures)
+    rw (all-digits v, yes, le-leb _ 9 (c .before .if3 .left)) (c .is-sign .ensures)
 
 pub packed-allowed-spec : {M : Type 1} → statement M
 packed-allowed-spec =
@@ -83,7 +72,5 @@ packed-allowed-spec =
     sub-last
     shared-slice-read-last
     returns-3
-    positive-sign-requires
-    returns-4
-    negative-sign-requires
-    returns-5)
+    is-sign-requires
+    returns-4)

@@ -1,21 +1,21 @@
--- `unpacked_allowed` meets its contract. The loop's invariant: the bytes from `i` on decide.
+-- `halves_allowed` meets its contract. The loop's invariant: the bytes from `i` on decide.
 -- Assumes nothing.
 use Prim.Native.Nat.{_-_, _≤_}
 use mathlib.Core.Path.{_≡_, refl, sym, _∙_}
 use native.Mathlib.Omega.{arith}
 use lib.ListN.{length, drop, drop-of-length-le}
-use Rattle.lists.specs.Tests.{within-inside, within-below, within-above}
+use borrow.Author.Tests.{le-leb, lt-leb}
 use Rattle.lists.specs.Folds.{all}
 use Rattle.lists.specs.Rest.{drop-more}
-use Rattle.values.specs.Values.{unpacked-digit}
-use Rattle.values.proofs.unpacked_allowed.Statement.{statement}
-use Rattle.values.proofs.unpacked_allowed.Tie as tie
+use Rattle.values.specs.Values.{digit, halves}
+use Rattle.digits.proofs.halves_allowed.Statement.{statement}
+use Rattle.digits.proofs.halves_allowed.Tie as tie
 
 abbrev Inv-loop : tie.InvT-loop
-Inv-loop value i₀ i = (i ≤ length value) × (all unpacked-digit value ≡ all unpacked-digit (drop i value))
+Inv-loop bytes i₀ i = (i ≤ length bytes) × (all digit (halves bytes) ≡ all digit (halves (drop i bytes)))
 
 abbrev μ-loop : tie.MeasureT-loop
-μ-loop value i₀ i = length value - i
+μ-loop bytes i₀ i = length bytes - i
 
 loop-holds : tie.Need-loop-holds Inv-loop μ-loop
 loop-holds c = (omega arith, refl)
@@ -26,14 +26,14 @@ shared-slice-read-byte c = omega arith
 returns : tie.Need-returns Inv-loop μ-loop
 returns c =
     let l = c .before .before .before in
-    let more = drop-more (l .before .args .value .now) (l .loop .i) 0 (omega arith) in
-    sym (l .loop .inv .1 ∙ rw (more, within-below 0x30 0x39 _ (c .if1 .taken)))
+    let more = drop-more (l .before .args .bytes .now) (l .loop .i) 0 (omega arith) in
+    sym (l .loop .inv .1 ∙ rw (more, lt-leb _ 9 (c .if1 .taken)))
 
 returns-2 : tie.Need-returns-2 Inv-loop μ-loop
 returns-2 c =
     let l = c .before .before .before .before in
-    let more = drop-more (l .before .args .value .now) (l .loop .i) 0 (omega arith) in
-    sym (l .loop .inv .1 ∙ rw (more, within-above 0x30 0x39 _ (c .if2 .taken)))
+    let more = drop-more (l .before .args .bytes .now) (l .loop .i) 0 (omega arith) in
+    sym (l .loop .inv .1 ∙ rw (more, le-leb _ 9 (c .before .if1 .left), lt-leb _ 9 (c .if2 .taken)))
 
 add-i : tie.Need-add-i Inv-loop μ-loop
 add-i c = omega arith
@@ -44,17 +44,17 @@ loop-less c = omega arith
 loop-again : tie.Need-loop-again Inv-loop μ-loop
 loop-again c =
     let l = c .before .before .before .before in
-    let more = drop-more (l .before .args .value .now) (l .loop .i) 0 (omega arith) in
-    (omega arith, l .loop .inv .1 ∙ rw (more, within-inside 0x30 0x39 _ (c .before .if1 .left) (c .if2 .left)))
+    let more = drop-more (l .before .args .bytes .now) (l .loop .i) 0 (omega arith) in
+    (omega arith, l .loop .inv .1 ∙ rw (more, le-leb _ 9 (c .before .if1 .left), le-leb _ 9 (c .if2 .left)))
 
 returns-3 : tie.Need-returns-3 Inv-loop μ-loop
 returns-3 c =
     let l = c .before in
-    let none = drop-of-length-le (l .before .args .value .now) (c .loop-test .left) in
+    let none = drop-of-length-le (l .before .args .bytes .now) (c .loop-test .left) in
     sym (l .loop .inv .1 ∙ rw none)
 
-pub unpacked-allowed-spec : {M : Type 1} → statement M
-unpacked-allowed-spec =
+pub halves-allowed-spec : {M : Type 1} → statement M
+halves-allowed-spec =
     tie.close
     (tie.spec
     Inv-loop

@@ -1,9 +1,9 @@
 -- `allowed` meets its contract, format by format.
 -- Assumes nothing.
 use Rattle.values.specs.Values.{allowed}
 use borrow.Author.Needs.{needs}
-use Rattle.values.proofs.allowed.Statement.{statement}
-use Rattle.values.proofs.allowed.Tie as tie
+use Rattle.digits.proofs.allowed.Statement.{statement}
+use Rattle.digits.proofs.allowed.Tie as tie
 
 enum-told : tie.Need-enum-told
 enum-told c = search needs
