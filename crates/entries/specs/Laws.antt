@@ -108,6 +108,11 @@ unpack-shape w = record { user = omega arith; file = omega arith; isn = omega ar
 pub no-entry : Entry
 no-entry = unpack-of 0
 
+-- the words, one after another
+pub entries-are : (words : List ℕ) (count : ℕ) → entries words count ≡ map unpack-of (take count words)
+unfolding entries
+entries-are words count = refl
+
 front : (words : List ℕ) (i count : ℕ) → i ≤ count → take i (entries words count) ≡ entries words i
 unfolding entries
 front words i count h = take-map unpack-of i (take count words) ∙ ap (map unpack-of) (take-take i count words h)

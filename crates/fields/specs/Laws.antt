@@ -17,7 +17,7 @@ use Rattle.lists.specs.Folds.{any, total, distinct, Each}
 use Rattle.definition.specs.Table.{no-field, field-at, field-count, fields-of}
 use Rattle.definition.specs.Shape.{FileShape}
 use Rattle.records.specs.Records.{field-length, field-offset, record-length}
-use Rattle.records.specs.Laws.{field-before, field-within}
+use Rattle.records.specs.Laws.{field-offset-is, record-length-is, field-before, field-within}
 use Rattle.values.specs.Values.{stored, null-value}
 use Rattle.values.specs.Laws.{stored-length, null-length}
 use Rattle.elements.specs.Elements.{places, named-twice, length-at, length-needed}
@@ -142,10 +142,11 @@ null-at (g ∷ gs) (suc k) rest h =
 
 module _ (f : File) (s : FileShape f) where
   pub null-field : (k : ℕ) → k < field-count f → (content : List ℕ) → record-length f ≤ length content → field-bytes f k (null-record f content) ≡ null-value (field-at f k .format) (length-at f k)
-  unfolding null-record field-offset record-length
+  unfolding null-record
   null-field k q content h =
       let gs = fields-of f in
+      let size : record-length f ≡ total field-length gs = record-length-is f in
       let many : length gs ≡ field-count f = length-take-le (field-count f) (f .fields) (omega (arith, s .places)) in
       let whole : 0 + length (nulls gs) ≤ length content = omega (arith, nulls-length gs) in
       let g : getD gs k no-field ≡ field-at f k = getD-take (field-count f) (f .fields) k no-field q in
-      rw (le-leb (total field-length gs) (length content) h, sets-eq (nulls gs) content 0 whole) (rw g at (null-at gs k (drop (0 + length (nulls gs)) content) (omega arith)))
+      rw (le-leb (record-length f) (length content) h, sets-eq (nulls gs) content 0 whole, field-offset-is f k) (rw g at (null-at gs k (drop (0 + length (nulls gs)) content) (omega arith)))

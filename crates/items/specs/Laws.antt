@@ -1,8 +1,9 @@
--- An item is no longer than the bytes that it was read from.
+-- An item is no longer than the bytes that it was read from; of no bytes there is none.
 -- Assumes nothing.
 use Prim.Native.Nat.{ℕ, _+_, _≤_}
 use native.Mathlib.Omega.{arith}
-use mathlib.Core.List.{List}
+use mathlib.Core.Path.{_≡_, refl}
+use mathlib.Core.List.{List, []}
 use lib.Dec.{eqb, ltb}
 use lib.ListN.{length, getD, drop, length-drop}
 use borrow.Author.Tests.{ltb-false, eqb-false}
@@ -59,3 +60,7 @@ item-fits bytes = go (outcome (eqb (length bytes) 0)) (outcome (eqb k 0)) (outco
         let z = eqb-false (length bytes) 0 e in
         rw (e, q, r, s) (omega (arith, z, field-fits (drop 1 bytes), length-drop 1 bytes))
     go (fails e) (fails q) (fails r) (fails s) = rw (e, q, r, s) (omega arith)
+
+pub item-none : item-of [] ≡ item-broken
+unfolding item-of
+item-none = refl

@@ -1,6 +1,6 @@
 -- Laws of the layout: slots of different files and ISNs do not overlap, and end where the store ends; what `place` finds.
 -- Assumes nothing.
-use Prim.Native.Nat.{ℕ, zero, suc, _+_, _-_, _≤_, _<_}
+use Prim.Native.Nat.{ℕ, zero, suc, _+_, _-_, _*_, _≤_, _<_}
 use native.Mathlib.Nat.{le-of-suc-le-suc}
 use native.Mathlib.Numerals.{add-one}
 use native.Mathlib.Omega.{arith}
@@ -20,6 +20,7 @@ use Rattle.definition.specs.declared.File.{File}
 use Rattle.definition.specs.declared.Definition.{Definition}
 use Rattle.records.specs.declared.Found.the-variants.{At, Nowhere}
 use Rattle.records.specs.Laws.{slot-before, slot-within}
+use Rattle.lists.specs.Folds.{total-most, each-index}
 use Rattle.lists.specs.Rows.{row-next, row-before, row-within}
 
 -- ---- files of the store, and slots of different files and ISNs
@@ -39,6 +40,14 @@ module _ (d : Definition) (s : DefinitionShape d) where
   pub file-within : (i : ℕ) → i < file-count d → file-offset d i + file-size (file-at d i) ≤ store-size d
   unfolding file-offset store-size
   file-within i h = row-within file-size (file-count d) (d .files) beyond places-files i h
+
+  -- where no file has more bytes than a bound, the store has no more than all of them with as many
+  pub store-size-most : (bound : ℕ) → ((i : ℕ) → i < file-count d → file-size (file-at d i) ≤ bound) → store-size d ≤ file-count d * bound
+  unfolding store-size
+  store-size-most bound each =
+      let many : length (files-of d) ≡ file-count d = length-take-le (file-count d) (d .files) places-files in
+      rw many at (total-most file-size bound (files-of d) (each-index (λ f. file-size f ≤ bound) beyond (files-of d)
+      (λ i k. let h : i < file-count d = omega (arith, many) in rw (getD-take (file-count d) (d .files) i beyond h) (each i h))))
 
   -- an ISN of the i-th file of the table
   pub record Slot (i n : ℕ) : Type 0 where

@@ -29,19 +29,6 @@ opening = record {
   overdue = false;
 }
 
--- "no user is open"
-abbrev pub fresh-user : User
-fresh-user = record {
-  session = false;
-  «hold_limit» = opening .«hold_limit»;
-  «time_limit» = opening .«time_limit»;
-  sequence = opening .sequence;
-  «access_only» = opening .«access_only»;
-  active = opening .active;
-  begun = opening .begun;
-  overdue = opening .overdue;
-}
-
 -- "A user with no session gets one"
 abbrev pub opened : User → User
 opened u = cond (u .session) u opening
@@ -75,6 +62,10 @@ closed u = record {
   begun = u .begun;
   overdue = u .overdue;
 }
+
+-- "no user is open"
+abbrev pub fresh-user : User
+fresh-user = closed opening
 
 -- ET: the sequence answered
 abbrev pub counted : ℕ → User → User

@@ -4,15 +4,25 @@ use Prim.Native.Nat.{ℕ, _+_, _-_, _≤_, _<_}
 use native.Mathlib.Nat.{mul-le-mul-right}
 use native.Mathlib.Numerals.{add-one}
 use native.Mathlib.Omega.{arith}
-use mathlib.Core.Path.{_≡_}
-use lib.ListN.{length}
-use Rattle.definition.specs.Table.{no-field, field-at, field-count}
+use mathlib.Core.Path.{_≡_, refl}
+use lib.ListN.{length, take}
+use Rattle.lists.specs.Folds.{total}
+use Rattle.definition.specs.Table.{no-field, field-at, field-count, fields-of}
 use Rattle.definition.specs.Shape.{FileShape}
 use Rattle.records.specs.Records.{field-length, field-offset, record-length, slot-length, slot-offset, file-size}
 use Rattle.definition.specs.declared.File.{File}
 use Rattle.lists.specs.Rows.{row-next, row-before, row-within}
 
 -- ---- fields of a record
+-- those before a field, and all of them
+pub field-offset-is : (f : File) (k : ℕ) → field-offset f k ≡ total field-length (take k (fields-of f))
+unfolding field-offset
+field-offset-is f k = refl
+
+pub record-length-is : (f : File) → record-length f ≡ total field-length (fields-of f)
+unfolding record-length
+record-length-is f = refl
+
 module _ (f : File) (s : FileShape f) where
   places-fields : field-count f ≤ length (f .fields)
   places-fields = omega (arith, s .places)

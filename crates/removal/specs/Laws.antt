@@ -12,7 +12,7 @@ use lib.Seq.{take-at, drop-at}
 use borrow.Author.Tests.{leb-true}
 use Rattle.lists.specs.Tests.{cond, Outcome, holds, fails, outcome, and-left, and-right}
 use Rattle.entries.specs.Entries.{unpack-of, entries}
-use Rattle.entries.specs.Laws.{length-entries}
+use Rattle.entries.specs.Laws.{entries-are, length-entries}
 use Rattle.lists.specs.Sift.{sift}
 use Rattle.removal.specs.Closing.{set-count, set-count-most, picked, closed-is, closed-front, length-closed}
 use Rattle.removal.specs.Removal.{stays, staying, fits, remove-queue, remove-images, remove-count}
@@ -99,10 +99,11 @@ module _ (words images : List ℕ) (count width : ℕ) (which : Removal) where
 
     -- the entries that stay, in order
     pub entries-remove : entries (remove-queue words images count width which) (remove-count words images count width which) ≡ sift (stays which) (entries words count)
-    unfolding remove-queue remove-count entries
+    unfolding remove-queue remove-count
     entries-remove =
         let k : set-count F * 1 ≡ set-count F = mul-one (set-count F) in
-        rw (room, ← k, closed-front 1 F words word-room) (words-sift (stays which) count words)
+        entries-are (remove-queue words images count width which) (remove-count words images count width which)
+        ∙ rw (room, ← k, closed-front 1 F words word-room, entries-are words count) (words-sift (stays which) count words)
 
     images-are : remove-images words images count width which ≡ picked width F images ++ drop (set-count F * width) images
     unfolding remove-images

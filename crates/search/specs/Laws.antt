@@ -15,7 +15,8 @@ use Rattle.definition.specs.Table.{field-count}
 use Rattle.definition.specs.declared.File.{File}
 use Rattle.lists.specs.Numbers.{numbers}
 use Rattle.search.specs.Search.{first-of, has-value, lowest, elsewhere}
-use Rattle.store.specs.Store.{slot-count, slot-fits, isns-from, has-record, record-of, get, field-value}
+use Rattle.store.specs.Store.{slot-count, isns-from, has-record, record-of, get, field-value}
+use Rattle.store.specs.Slots.{slot-fits-is, has-record-is}
 use Rattle.store.specs.Laws.{has-fits, fits-most, fits-least, get-some, some-has, some-record}
 use Rattle.search.specs.declared.Occupied.the-variants.{At, Nowhere}
 
@@ -79,12 +80,12 @@ module _ (f : File) (part : List ℕ) (from : ℕ) where
       record { above = r .0; least = fits-least f part n fits; most = fits-most f part n fits; there = r .1; between = r .2 }
 
   pub lowest-none : lowest f part from ≡ Nowhere → (m : ℕ) → from ≤ m → has-record f part m ≡ false
-  unfolding lowest has-record
+  unfolding lowest
   lowest-none e m a = go (outcome (leb m (slot-count f (length part))))
     where
       go : Outcome (leb m (slot-count f (length part))) → has-record f part m ≡ false
       go (holds t) = first-none (has-record f part) (slot-count f (length part) + 1 - from) from e m a (omega (arith, leb-true m (slot-count f (length part)) t))
-      go (fails t) = rw (within-above 1 (slot-count f (length part)) m (leb-false m (slot-count f (length part)) t))
+      go (fails t) = rw (has-record-is f part, within-above 1 (slot-count f (length part)) m (leb-false m (slot-count f (length part)) t))
 
 -- ---- a value elsewhere
 -- another ISN, and its record, which has the value
@@ -114,13 +115,13 @@ module _ (f : File) (part : List ℕ) (k isn : ℕ) (value : List ℕ) where
           }
 
   pub elsewhere-false : elsewhere f part k isn value ≡ false → k < field-count f → Elsewhere f part k isn value → ⊥
-  unfolding elsewhere slot-fits
+  unfolding elsewhere
   elsewhere-false h in-use w =
       let n = w .other in
       let has = some-has f part n (w .bytes) (w .there) in
       let fits = has-fits f part n has in
       let none : any (has-value f part k isn value) (isns-from f part 1) ≡ false = rw (lt-ltb k (field-count f) in-use) at h in
-      let no = any-number (has-value f part k isn value) (slot-count f (length part) + 1 - 1) 1 none n (fits-least f part n fits) (omega (arith, within-most 1 (slot-count f (length part)) n fits)) in
+      let no = any-number (has-value f part k isn value) (slot-count f (length part) + 1 - 1) 1 none n (fits-least f part n fits) (omega (arith, within-most 1 (slot-count f (length part)) n (rw (slot-fits-is f part n) at fits))) in
       let value-there : field-value f k (record-of f part n) ≡ value = ap (field-value f k) (some-record f part n (w .bytes) (w .there)) ∙ w .has in
       let yes : has-value f part k isn value n ≡ true = rw (ne-eqb n isn (w .apart), has, value-there) (eqbs-self value) in
       not-both (has-value f part k isn value n) yes no

@@ -2,7 +2,7 @@
 -- Assumes nothing.
 use Prim.Native.Nat.{ℕ, _+_, _-_, _≤_, _<_}
 use native.Mathlib.Omega.{arith}
-use mathlib.Core.Path.{_≡_}
+use mathlib.Core.Path.{_≡_, refl}
 use mathlib.Core.List.{List}
 use mathlib.Core.Logic.{inl, inr}
 use lib.Dec.{ltb}
@@ -16,8 +16,18 @@ use Rattle.records.specs.Records.{file-size}
 use Rattle.layout.specs.Layout.{file-offset, store-size}
 use Rattle.layout.specs.Laws.{file-before, file-within}
 use Rattle.lists.specs.Parts.{length-piece, Apart}
-use Rattle.lists.specs.Pieces.{length-patch, patch-same, patch-other, patch-behind}
+use Rattle.lists.specs.Pieces.{piece, patch, length-patch, patch-same, patch-other, patch-behind}
 use Rattle.store.specs.Store.{file-part, with-part}
+
+-- where a file's part lies
+module _ (d : Definition) (i : ℕ) (store : List ℕ) where
+  pub file-part-is : file-part d i store ≡ piece (file-offset d i) (file-size (file-at d i)) store
+  unfolding file-part
+  file-part-is = refl
+
+  pub with-part-is : (part : List ℕ) → with-part d i store part ≡ patch (file-offset d i) (file-size (file-at d i)) store part
+  unfolding with-part
+  with-part-is part = refl
 
 module _ (d : Definition) (s : DefinitionShape d) (store : List ℕ) (room : store-size d ≤ length store) where
   inside : (i : ℕ) → i < file-count d → file-offset d i + file-size (file-at d i) ≤ length store

@@ -3,15 +3,15 @@
 use Prim.Native.Nat.{ℕ, _+_, _-_, _*_, _/_, _≤_}
 use native.Mathlib.Nat.{mul-le-mul-right, div-mul-le-self}
 use native.Mathlib.Omega.{arith}
-use mathlib.Core.Path.{_≡_}
+use mathlib.Core.Path.{_≡_, refl}
 use mathlib.Core.Bool.{true}
 use mathlib.Core.List.{List}
 use lib.Dec.{eqb}
 use lib.ListN.{length, getD}
-use Rattle.lists.specs.Tests.{within-inside, within-least, within-most}
+use Rattle.lists.specs.Tests.{within, within-inside, within-least, within-most}
 use Rattle.definition.specs.declared.File.{File}
 use Rattle.records.specs.Records.{slot-length, slot-offset}
-use Rattle.store.specs.Store.{recorded, slot-count, slot-fits}
+use Rattle.store.specs.Store.{recorded, slot-count, slot-fits, has-record}
 
 -- a slot ends where the next begins, and no later than the last
 module _ (size isn : ℕ) (least : 1 ≤ isn) where
@@ -28,7 +28,16 @@ module _ (last size : ℕ) (part : List ℕ) (isn at : ℕ) (least : 1 ≤ isn) 
   pub recorded-here : recorded last size part isn ≡ eqb (getD part at 0) 1
   recorded-here = rw (within-inside 1 last isn least most, place)
 
--- ---- a file's slots lie within the bytes that they are counted in
+-- ---- a file's slots are such a row
+pub slot-fits-is : (f : File) (part : List ℕ) (isn : ℕ) → slot-fits f part isn ≡ within 1 (slot-count f (length part)) isn
+unfolding slot-fits
+slot-fits-is f part isn = refl
+
+pub has-record-is : (f : File) (part : List ℕ) → has-record f part ≡ recorded (slot-count f (length part)) (slot-length f) part
+unfolding has-record
+has-record-is f part = refl
+
+-- they lie within the bytes that they are counted in
 pub count-room : (f : File) (bytes : ℕ) → slot-count f bytes * slot-length f ≤ bytes
 count-room f bytes =
     let e : slot-count f bytes ≤ bytes / slot-length f = omega arith in

@@ -6,17 +6,17 @@ use native.Mathlib.Omega.{arith}
 use mathlib.Core.Path.{_≡_, refl, sym, ap}
 use mathlib.Core.Bool.{true}
 use lib.Dec.{ltb}
-use lib.ListN.{length, length-take}
+use lib.ListN.{length}
 use lib.Seq.{getD-take, length-take-le}
 use borrow.Author.Tests.{ltb-true, ltb-false, eqb-false}
 use Rattle.lists.specs.Tests.{Outcome, holds, fails, outcome, within, within-least, and-left, and-right}
-use Rattle.lists.specs.Folds.{all, distinct, sound, all-at, distinct-at, each-index, total-most}
+use Rattle.lists.specs.Folds.{all, distinct, sound, all-at, distinct-at}
 use Rattle.definition.specs.Table.{max-files, beyond, file-at, file-count, files-of, numbered-alike}
 use Rattle.definition.specs.Shape.{DefinitionShape}
 use Rattle.definition.specs.declared.Definition.{Definition}
 use Rattle.records.specs.Records.{slot-length, file-size}
 use Rattle.layout.specs.Layout.{store-size, place}
-use Rattle.layout.specs.Laws.{place-found, place-nowhere}
+use Rattle.layout.specs.Laws.{store-size-most, place-found, place-nowhere}
 use Rattle.records.specs.declared.Found.{Found}
 use Rattle.records.specs.declared.Found.the-variants.{At, Nowhere}
 use Rattle.file_validity.specs.FileValidity.{file-valid}
@@ -76,13 +76,4 @@ module _ (d : Definition) (s : DefinitionShape d) (v : valid d ≡ true) where
       mul-le-mul (f .isn-most) w
 
   pub store-size-valid : store-size d ≤ 33611760
-  unfolding store-size
-  store-size-valid =
-      omega (
-        arith,
-        total-most file-size 2100735 (files-of d) (each-index (λ f. file-size f ≤ 2100735) beyond (files-of d) (λ i k. rw (getD-take (file-count d) (d .files) i beyond (inside i k)) (file-size-valid i (inside i k)))),
-        length-take (file-count d) (d .files),
-      )
-    where
-      inside : (i : ℕ) → i < length (files-of d) → i < file-count d
-      inside i k = omega (arith, length-take (file-count d) (d .files))
+  store-size-valid = omega (arith, store-size-most d s 2100735 file-size-valid)

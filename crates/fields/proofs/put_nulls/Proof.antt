@@ -11,7 +11,7 @@ use Rattle.definition.specs.Table.{field-at, field-count, fields-of}
 use Rattle.definition.specs.Shape.{FileShape, field-next, no-field-left}
 use Rattle.definition.proofs.Known.{file-known}
 use Rattle.records.specs.Records.{field-length, field-offset, record-length}
-use Rattle.records.specs.Laws.{field-follows, field-within}
+use Rattle.records.specs.Laws.{field-offset-is, field-follows, field-within}
 use Rattle.values.specs.Values.{null-value}
 use Rattle.values.specs.Laws.{null-length}
 use Rattle.fields.specs.Fields.{nulls, null-record}
@@ -55,8 +55,7 @@ field-count-requires : tie.Need-field-count-requires Inv-loop μ-loop
 field-count-requires c κs = search needs
 
 loop-holds : tie.Need-loop-holds Inv-loop μ-loop
-unfolding field-offset
-loop-holds c = (refl, refl)
+loop-holds c = (refl, rw (field-offset-is _ 0))
 
 span-of-requires : tie.Need-span-of-requires Inv-loop μ-loop
 span-of-requires c κs = search needs

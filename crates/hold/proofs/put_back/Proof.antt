@@ -12,7 +12,7 @@ use Rattle.records.specs.Records.{file-size}
 use Rattle.layout.specs.Layout.{file-offset, store-size, place}
 use Rattle.layout.specs.Laws.{place-found, file-follows, file-within}
 use Rattle.records.specs.declared.Found.the-variants.{At}
-use Rattle.store.specs.Store.{file-part, with-part}
+use Rattle.store.specs.Files.{file-part-is, with-part-is}
 use Rattle.hold.specs.Hold.{put-back}
 use borrow.Author.Needs.{needs}
 use Rattle.hold.proofs.put_back.Statement.{statement}
@@ -97,13 +97,15 @@ same-length : tie.Need-same-length
 same-length c = search needs
 
 returns-3 : tie.Need-returns-3
-unfolding put-back with-part file-part
+unfolding put-back
 returns-3 c =
     let o = c .before .before .before .before in
     let k = o .before .before .before in
     let yes = rw (k .before .before .before .before .before .store-size .ensures) at (le-leb _ _ (k .before .before .before .before .if1 .left)) in
     let size : o .file-offset2 .result - o .before .file-offset .result ≡ file-size (file-at (entry k .args .t1) (k .before .found .given .0 .0)) = omega (arith, ends o) in
-    rw (yes, found k, c .before .before .put-back-in .ensures, size, o .before .file-offset .ensures)
+    let d = entry k .args .t1 in
+    let i = k .before .found .given .0 .0 in
+    rw (yes, found k, file-part-is d i (entry k .args .store .now), with-part-is d i (entry k .args .store .now), c .before .before .put-back-in .ensures, size, o .before .file-offset .ensures)
 
 pub put-back-spec : {M : Type 1} → statement M
 put-back-spec =

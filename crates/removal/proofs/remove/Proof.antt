@@ -1,11 +1,12 @@
 -- `remove` meets its contract. The loop's invariant: of the first i entries, those that stay are closed up, with their images.
 -- Assumes nothing.
 use lib.Dec.{leb}
-use Rattle.entries.specs.Entries.{bit, unpack-of, entries}
+use Rattle.entries.specs.Entries.{bit, unpack-of}
+use Rattle.entries.specs.Laws.{entries-are}
 use Rattle.removal.specs.Closing.{set-count, closed, length-closed}
 use Rattle.removal.specs.Removal.{stays, remove-queue, remove-images, remove-count}
 use Prim.Native.Nat.{ℕ, _+_, _-_, _*_, _≤_, _<_}
-use mathlib.Core.Path.{_≡_, refl, sym, ap, _∙_}
+use mathlib.Core.Path.{_≡_, sym, ap, _∙_}
 use native.Mathlib.Omega.{arith}
 use borrow.Author.Needs.{needs}
 use mathlib.Core.Bool.{Bool, true, false, not}
@@ -86,8 +87,8 @@ returns-2 c =
     (rw (yes, no), (rw (yes, no), rw (yes, no)))
 
 loop-holds : tie.Need-loop-holds Inv-loop μ-loop
-unfolding entries closed
-loop-holds c = (omega arith, refl, refl, refl)
+unfolding closed
+loop-holds c = (omega arith, rw (entries-are _ 0), rw (entries-are _ 0), rw (entries-are _ 0))
 
 mul-unpack : tie.Need-mul-unpack Inv-loop μ-loop
 mul-unpack c = omega arith

@@ -10,7 +10,7 @@ use Rattle.lists.specs.Folds.{distinct}
 use Rattle.entries.specs.Entries.{entries}
 use Rattle.repeats.specs.Repeats.{alike, repeated}
 use Rattle.repeats.specs.Marks.{key, key-small, set-mark, length-set-mark, all-marked}
-use Rattle.entries.specs.Laws.{entries-all}
+use Rattle.entries.specs.Laws.{entries-are, entries-all}
 use Rattle.repeats.specs.Passed.{repeated-here, distinct-so-far, marked-so-far}
 use Rattle.repeats.proofs.repeated.Statement.{statement}
 use Rattle.repeats.proofs.repeated.Tie as tie
@@ -25,8 +25,7 @@ least-requires : tie.Need-least-requires Inv-loop μ-loop
 least-requires c κs = search needs
 
 loop-holds : tie.Need-loop-holds Inv-loop μ-loop
-unfolding entries
-loop-holds c = (c .least .ensures, omega arith, refl, refl, refl)
+loop-holds c = (c .least .ensures, omega arith, refl, rw (entries-are _ 0), rw (entries-are _ 0))
 
 mul-unpack : tie.Need-mul-unpack Inv-loop μ-loop
 mul-unpack c = omega arith

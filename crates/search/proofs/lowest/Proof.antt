@@ -4,9 +4,9 @@ use native.Mathlib.Omega.{arith}
 use borrow.Author.Needs.{needs}
 use lib.ListN.{length}
 use Rattle.lists.specs.Numbers.{from-to-more}
-use Rattle.store.specs.Store.{slot-count, has-record}
+use Rattle.store.specs.Store.{slot-count}
 use Rattle.search.specs.Search.{lowest}
-use Rattle.store.specs.Slots.{count-room}
+use Rattle.store.specs.Slots.{has-record-is, count-room}
 use Rattle.search.proofs.lowest.Statement.{statement}
 use Rattle.search.proofs.lowest.Tie as tie
 
@@ -23,11 +23,11 @@ first-record-requires c κs =
     (omega arith, (omega arith, (omega arith, rw (n .slot-count .ensures, n .before .slot-length .ensures) (count-room (s .args .f) (length (s .args .part .now))))))
 
 returns : tie.Need-returns
-unfolding lowest has-record
+unfolding lowest
 returns c =
     let n = c .before .before in
     let s = n .before .before .before in
-    rw (c .first-record .ensures, c .before .if1 .taken, from-to-more 0 (slot-count (s .args .f) (length (s .args .part .now))) (omega arith), n .slot-count .ensures, n .before .slot-length .ensures)
+    rw (c .first-record .ensures, c .before .if1 .taken, from-to-more 0 (slot-count (s .args .f) (length (s .args .part .now))) (omega arith), n .slot-count .ensures, n .before .slot-length .ensures, has-record-is (s .args .f) (s .args .part .now))
 
 first-record-requires-2 : tie.Need-first-record-requires-2
 first-record-requires-2 c κs =
@@ -36,10 +36,11 @@ first-record-requires-2 c κs =
     (omega arith, (omega arith, (omega arith, rw (n .slot-count .ensures, n .before .slot-length .ensures) (count-room (s .args .f) (length (s .args .part .now))))))
 
 returns-2 : tie.Need-returns-2
-unfolding lowest has-record
+unfolding lowest
 returns-2 c =
     let n = c .before .before in
-    rw (c .first-record2 .ensures, n .slot-count .ensures, n .before .slot-length .ensures)
+    let s = n .before .before .before in
+    rw (c .first-record2 .ensures, n .slot-count .ensures, n .before .slot-length .ensures, has-record-is (s .args .f) (s .args .part .now))
 
 pub lowest-spec : {M : Type 1} → statement M
 lowest-spec =

@@ -7,7 +7,7 @@ use Prim.Native.Nat.{ℕ, zero, suc, _+_, _≤_, _<_}
 use native.Mathlib.Omega.{arith}
 use lib.ListN.{length, drop, length-drop, drop-of-length-le}
 use Rattle.definition.specs.Table.{no-definition}
-use Rattle.items.specs.Laws.{item-fits}
+use Rattle.items.specs.Laws.{item-fits, item-none}
 use Rattle.items.specs.Items.{item-of}
 use Rattle.reading.specs.Grammar.{room-for-file, room-for-field, add-file, add-field, broken, ended, proceed, read-from, read-table}
 use Rattle.definition.specs.declared.Definition.{Definition}
@@ -27,12 +27,12 @@ start bytes = record { fuel = length bytes; enough = omega arith; same = refl }
 module _ (bytes : List ℕ) (at : ℕ) (d : Definition) (p : Pending bytes at d) where
   -- past the bytes there is no item
   pub past : length bytes ≤ at → broken ≡ read-table bytes
-  unfolding read-from item-of
+  unfolding read-from
   past h = go (p .fuel) (p .same)
     where
       go : (k : ℕ) → read-from k bytes at d ≡ read-table bytes → broken ≡ read-table bytes
       go zero e = e
-      go (suc k) e = rw (drop-of-length-le bytes h) at e
+      go (suc k) e = rw (drop-of-length-le bytes h, item-none) at e
 
   -- before their end some fuel is left, and the item there decides
   pub record Next : Type 0 where
