@@ -2,7 +2,7 @@
 ghost use mathlib.Core.Path.{_≡_};
 ghost use mathlib.Core.Bool.{_||_};
 ghost use Rattle.lists.specs.Folds.{all};
-ghost use Rattle.values.specs.Values.{unpacked-digit, digit, positive-sign, negative-sign, halves, allowed};
+ghost use Rattle.digits.specs.Digits.{unpacked-digit, digit, positive-sign, negative-sign, halves, allowed};
 ghost use Rattle.definition.specs.declared.Format.the-variants.{Packed};
 use definition::Format;
 

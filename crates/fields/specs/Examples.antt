@@ -8,7 +8,8 @@ use mathlib.Core.List.{List, [], _∷_, map}
 use lib.ListN.{set}
 use Rattle.definition.specs.Table.{no-file}
 use Rattle.records.specs.Records.{field-offset, record-length}
-use Rattle.values.specs.Values.{allowed, below-zero, stored, null-value}
+use Rattle.digits.specs.Digits.{allowed}
+use Rattle.values.specs.Values.{below-zero, stored, null-value}
 use Rattle.elements.specs.Elements.{field-named, places, length-needed}
 use Rattle.fields.specs.Fields.{fits, read-fields, write-fields, values-allowed, null-record}
 use Rattle.definition.specs.declared.Format.the-variants.{Alphanumeric, Unpacked, Packed}

@@ -9,7 +9,8 @@ use lib.Seq.{sets}
 use Rattle.lists.specs.Tests.{cond}
 use Rattle.definition.specs.Table.{field-at, fields-of}
 use Rattle.records.specs.Records.{field-length, field-offset, record-length}
-use Rattle.values.specs.Values.{allowed, stored, null-value}
+use Rattle.digits.specs.Digits.{allowed}
+use Rattle.values.specs.Values.{stored, null-value}
 use Rattle.elements.specs.Elements.{places, length-needed}
 use Rattle.records.specs.declared.Found.{Found}
 use Rattle.records.specs.declared.Found.the-variants.{At, Nowhere}

@@ -6,10 +6,10 @@ use native.Mathlib.Nat.{le-of-suc-le-suc}
 use native.Mathlib.Omega.{arith}
 use mathlib.Core.Path.{_≡_, refl, ap, _∙_}
 use mathlib.Core.Bool.{Bool, true, false, not}
-use mathlib.Core.List.{List, [], _∷_, _++_, append-assoc}
+use mathlib.Core.List.{List, [], _∷_, _++_, append-assoc, append-nil}
 use mathlib.Core.Logic.{inl, inr}
 use lib.Dec.{eqb, leb, ltb}
-use lib.ListN.{length, take, drop, getD, length-take, length-drop, length-append}
+use lib.ListN.{length, take, drop, getD, length-take, length-drop, length-append, drop-of-length-le}
 use lib.Seq.{sets, sets-eq, length-sets, take-at, drop-append-add, getD-take, length-take-le}
 use borrow.Author.Tests.{le-leb, leb-true, ltb-true, ltb-false, eqb-false, not-true}
 use Rattle.lists.specs.Tests.{cond, Outcome, holds, fails, outcome, and-left, and-right, or-left, or-right}
@@ -130,6 +130,9 @@ pub nulls-length : (gs : List Field) → length (nulls gs) ≡ total field-lengt
 nulls-length [] = refl
 nulls-length (g ∷ gs) = omega (arith, length-append (null-value (g .format) (g .length)) (nulls gs), null-length (g .format) (g .length), nulls-length gs)
 
+pub null-width : (f : File) → length (nulls (fields-of f)) ≡ record-length f
+null-width f = rw (record-length-is f) (nulls-length (fields-of f))
+
 null-at : (gs : List Field) (k : ℕ) (rest : List ℕ) → k < length gs → take (field-length (getD gs k no-field)) (drop (total field-length (take k gs)) (nulls gs ++ rest)) ≡ null-value (getD gs k no-field .format) (field-length (getD gs k no-field))
 null-at [] k rest h = absurd (omega arith)
 null-at (g ∷ gs) zero rest h =
@@ -150,3 +153,12 @@ module _ (f : File) (s : FileShape f) where
       let whole : 0 + length (nulls gs) ≤ length content = omega (arith, nulls-length gs) in
       let g : getD gs k no-field ≡ field-at f k = getD-take (field-count f) (f .fields) k no-field q in
       rw (le-leb (record-length f) (length content) h, sets-eq (nulls gs) content 0 whole, field-offset-is f k) (rw g at (null-at gs k (drop (0 + length (nulls gs)) content) (omega arith)))
+
+-- over a record of the file's length it is the nulls, and nothing else
+pub null-record-is : (f : File) (content : List ℕ) → length content ≡ record-length f → null-record f content ≡ nulls (fields-of f)
+unfolding null-record
+null-record-is f content e =
+    let gs = fields-of f in
+    let long : 0 + length (nulls gs) ≡ length content = omega (arith, null-width f) in
+    rw (le-leb (record-length f) (length content) (omega arith), sets-eq (nulls gs) content 0 (omega arith), drop-of-length-le content {i = 0 + length (nulls gs)} (omega arith))
+    (append-nil (nulls gs))

@@ -12,7 +12,8 @@ use Rattle.definition.specs.Table.{field-count}
 use Rattle.definition.specs.Shape.{FileShape}
 use Rattle.records.specs.Records.{record-length}
 use Rattle.records.specs.Laws.{field-within}
-use Rattle.values.specs.Laws.{plain-stored, plain-allowed}
+use Rattle.values.specs.Laws.{plain-stored}
+use Rattle.digits.specs.Laws.{plain-allowed}
 use Rattle.elements.specs.Elements.{element, before, places, length-of, length-needed}
 use Rattle.elements.specs.Steps.{places-step, needed-step}
 use Rattle.elements.specs.Laws.{element-inside}

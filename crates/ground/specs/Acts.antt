@@ -24,7 +24,7 @@ use Rattle.removal.specs.declared.Removal.the-variants.{One, Unchanged, All}
 use Rattle.changes.specs.Changes.{first-change-queue, first-change-images}
 use Rattle.hold.specs.Hold.{restore}
 use Rattle.transactions.specs.Machine.{Entry as MachineEntry, Ground, Machine, new-entry, at-key, with-hold, mark, hold, release, release-all, change, end, back-out, act}
-use Rattle.ground.specs.Lists.{any-behind}
+use Rattle.lists.specs.Every.{any-behind}
 use Rattle.ground.specs.Keys.{isn-bound, key}
 use Rattle.ground.specs.Store.{get, put}
 use Rattle.ground.specs.Queue.{key-of, Made}

@@ -31,7 +31,7 @@ use Rattle.transactions.specs.Machine.{Entry as MachineEntry, new-entry, of-use
 use Rattle.ground.specs.Keys.{isn-bound, key, key-test}
 use Rattle.ground.specs.Queue.{key-of, before, held, holds-of, queue-of, Made}
 use Rattle.ground.specs.Reading.{Small, entries-small, held-key, found-one}
-use Rattle.ground.specs.Single.{all-at-key, release-one}
+use Rattle.transactions.specs.Single.{all-at-key, release-one}
 
 -- ---- a new entry
 module _ (d : Definition) where

@@ -36,7 +36,7 @@ use Rattle.ground.specs.Store.{get}
 use Rattle.ground.specs.StoreLaws.{get-fit, fit-form}
 use Rattle.ground.specs.Queue.{key-of, before, held, queue-of, entry-known, Made}
 use Rattle.ground.specs.Reading.{single-at, found-inside, found-word, found-key, found-at, found-long, found-here}
-use Rattle.ground.specs.Single.{mark-set, marked-changed}
+use Rattle.transactions.specs.Single.{mark-set, marked-changed}
 
 -- ---- an image is as wide as the widest file (`lists`, Folds, and `layout`, Laws)
 maximum-at : {A : Type 0} (f : A → ℕ) (l : List A) (z : A) (i : ℕ) → i < length l → f (getD l i z) ≤ maximum f l

@@ -19,11 +19,10 @@ use Rattle.layout.specs.Layout.{store-size, place}
 use Rattle.layout.specs.Laws.{place-found}
 use Rattle.records.specs.declared.Found.{Found}
 use Rattle.records.specs.declared.Found.the-variants.{At, Nowhere}
-use Rattle.lists.specs.Numbers.{numbers, each-number}
+use Rattle.lists.specs.Numbers.{numbers, each-number, in-numbers}
 use Rattle.store.specs.Store.{get as get-record, fresh, file-part}
 use Rattle.store.specs.Laws.{fresh-length, get-fresh}
 use Rattle.store.specs.Files.{file-part-length, with-part-length, part-same, part-other, part-past}
-use Rattle.ground.specs.Lists.{in-numbers}
 use Rattle.ground.specs.Keys.{key-file, key-isn}
 use Rattle.ground.specs.Store.{whole, get-at, get, fresh-at, fresh-from, fresh-store}
 use Rattle.ground.specs.StoreLaws.{whole-room, whole-long, get-is}

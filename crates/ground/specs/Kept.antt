@@ -10,7 +10,7 @@ use lib.ListN.{length, getD, set}
 use lib.Seq.{sets, length-sets, map-set-same}
 use borrow.Author.Tests.{not-false}
 use Rattle.lists.specs.Folds.{all, distinct, all-append}
-use Rattle.lists.specs.Sift.{all-keeps}
+use Rattle.lists.specs.Sift.{all-keeps, distinct-sift}
 use Rattle.definition.specs.Shape.{DefinitionShape}
 use Rattle.definition.specs.declared.Definition.{Definition}
 use Rattle.layout.specs.Layout.{store-size, image-length}
@@ -28,7 +28,7 @@ use Rattle.removal.specs.declared.Removal.{Removal}
 use Rattle.changes.specs.Changes.{keep-image, settled, first-change-queue, first-change-images}
 use Rattle.hold.specs.Hold.{restore}
 use Rattle.transactions.specs.Slots.{Slot}
-use Rattle.ground.specs.Lists.{all-over, distinct-over, distinct-sift}
+use Rattle.lists.specs.Maps.{all-over, distinct-over}
 use Rattle.ground.specs.Keys.{known}
 use Rattle.ground.specs.Store.{put}
 use Rattle.ground.specs.StoreLaws.{put-room}

@@ -9,7 +9,7 @@ use lib.Dec.{eqb}
 use lib.ListN.{length, getD}
 use lib.Seq.{getD-take, length-take-le}
 use borrow.Author.Tests.{eqb-true, eq-eqb}
-use Rattle.lists.specs.Tests.{within-inside, within-least, within-most, not-both, and-left, and-right, eqb-self}
+use Rattle.lists.specs.Tests.{within-inside, within-least, within-most, not-both, and-left, and-right, eqb-self, both-ways}
 use Rattle.lists.specs.Folds.{any, all, Each, each-index, all-append}
 use Rattle.lists.specs.Sift.{elem-all}
 use Rattle.definition.specs.Table.{beyond, file-at, file-count, files-of}
@@ -22,8 +22,9 @@ use Rattle.records.specs.declared.Found.{Found}
 use Rattle.records.specs.declared.Found.the-variants.{At, Nowhere}
 use Rattle.validity.specs.Validity.{valid}
 use Rattle.validity.specs.Laws.{valid-at, place-own}
-use Rattle.lists.specs.Numbers.{from-to}
-use Rattle.ground.specs.Lists.{both-ways, any-front, any-behind, in-numbers, all-numbers, all-over, elem-map}
+use Rattle.lists.specs.Numbers.{from-to, in-numbers, all-numbers}
+use Rattle.lists.specs.Every.{any-front, any-behind}
+use Rattle.lists.specs.Maps.{all-over, elem-map}
 
 -- the numbers that an ISN of two bytes has
 abbrev pub isn-bound : ℕ

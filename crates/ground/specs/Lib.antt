@@ -1,9 +1,7 @@
-pub mod Lists
 pub mod Keys
 pub mod Store
 pub mod StoreLaws
 pub mod Fresh
-pub mod Single
 pub mod Queue
 pub mod Reading
 pub mod Ground

@@ -29,7 +29,7 @@ use Rattle.transactions.specs.Machine.{Entry as MachineEntry, of-user, at-key, 
 use Rattle.transactions.specs.View.{Single, nobody, holder as one, at}
 use Rattle.ground.specs.Keys.{isn-bound, key, key-test}
 use Rattle.ground.specs.Queue.{key-of, held, holds-of, queue-of}
-use Rattle.ground.specs.Single.{at-index}
+use Rattle.transactions.specs.Single.{at-index}
 
 -- ---- of any list of entries whose ISNs fit their bytes
 abbrev pub Small : List Entry → Type 0

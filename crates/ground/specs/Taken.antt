@@ -10,7 +10,7 @@ use mathlib.Core.Option.{none, some}
 use lib.Dec.{eqb}
 use lib.ListN.{length}
 use borrow.Author.Tests.{eqb-true, eqb-false, ne-eqb, not-true}
-use Rattle.lists.specs.Tests.{Outcome, holds, fails, outcome, not-both, eqb-self, eqbs-self, and-left, and-right}
+use Rattle.lists.specs.Tests.{Outcome, holds, fails, outcome, not-both, eqb-self, eqbs-self, and-left, and-right, both-ways, eqbs-true}
 use Rattle.lists.specs.Folds.{any, any-agree, any-true}
 use Rattle.lists.specs.Sift.{any-elem}
 use Rattle.definition.specs.Table.{file-at, field-count}
@@ -29,7 +29,7 @@ use Rattle.search.specs.Laws.{Elsewhere, elsewhere-true, elsewhere-false}
 use Rattle.images.specs.Images.{image-has}
 use Rattle.transactions.specs.Slots.{Slot}
 use Rattle.transactions.specs.Machine.{held-by-other, clash, taken}
-use Rattle.ground.specs.Lists.{both-ways, any-each, each-with, any-swap, any-or, eqbs-true}
+use Rattle.lists.specs.Every.{any-each, each-with, any-swap, any-or}
 use Rattle.ground.specs.Keys.{isn-bound, key, key-file, key-isn, key-parts, file-of, file-of-key, isn-of-key, keys, Known, known-file, known-isn, keys-known}
 use Rattle.ground.specs.Store.{get}
 use Rattle.ground.specs.StoreLaws.{get-is}

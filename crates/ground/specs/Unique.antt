@@ -9,7 +9,7 @@ use mathlib.Core.Option.{none, some}
 use lib.Dec.{eqb}
 use lib.ListN.{length, take, drop}
 use borrow.Author.Tests.{eqb-true}
-use Rattle.lists.specs.Tests.{eqbs, not-both}
+use Rattle.lists.specs.Tests.{eqbs, not-both, eqb-comm, eqbs-comm}
 use Rattle.lists.specs.Folds.{any, Each}
 use Rattle.definition.specs.Table.{field-at, field-count}
 use Rattle.definition.specs.Shape.{FileShape}
@@ -27,7 +27,8 @@ use Rattle.store.specs.Store.{field-value}
 use Rattle.images.specs.Images.{has-at, image-has}
 use Rattle.transactions.specs.Slots.{Slot}
 use Rattle.transactions.specs.Machine.{Entry as MachineEntry, of-user, at-key, held-by-other, clash}
-use Rattle.ground.specs.Lists.{eqb-comm, eqbs-comm, any-each, each-with, each-fails, each-sift, any-never, any-swap}
+use Rattle.lists.specs.Every.{any-each, each-with, each-fails, any-never, any-swap}
+use Rattle.lists.specs.Sift.{each-sift}
 use Rattle.ground.specs.Keys.{key-file, file-of, file-of-key}
 use Rattle.ground.specs.Queue.{holds-of, queue-of}
 use Rattle.ground.specs.Reading.{Small, entries-small}

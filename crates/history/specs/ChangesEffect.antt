@@ -22,7 +22,7 @@ use Rattle.queue.specs.declared.Lookup.the-variants.{Held}
 use Rattle.changes.specs.Changes.{settled, first-change-queue}
 use Rattle.transactions.specs.Slots.{Slot}
 use Rattle.transactions.specs.Machine.{Entry as MachineEntry, with-hold, mark}
-use Rattle.ground.specs.Lists.{all-over}
+use Rattle.lists.specs.Maps.{all-over}
 use Rattle.ground.specs.Keys.{isn-bound, key}
 use Rattle.ground.specs.Store.{get, put-in, put}
 use Rattle.ground.specs.StoreLaws.{put-key}

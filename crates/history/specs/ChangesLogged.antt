@@ -4,20 +4,18 @@ use Prim.Native.Nat.{ℕ, _+_, _≤_}
 use native.Mathlib.Omega.{arith}
 use mathlib.Core.Path.{_≡_, refl, _∙_}
 use mathlib.Core.Bool.{Bool, true, false, _&&_}
-use mathlib.Core.List.{List, [], _∷_, append-nil}
+use mathlib.Core.List.{List, [], _∷_}
 use mathlib.Core.Option.{none, some}
-use lib.ListN.{length, drop-of-length-le}
-use lib.Seq.{sets-eq}
-use borrow.Author.Tests.{le-leb, not-false}
+use lib.ListN.{length}
+use borrow.Author.Tests.{not-false}
 use Rattle.lists.specs.Tests.{cond, or-left}
 use Rattle.definition.specs.Table.{file-at, fields-of}
 use Rattle.definition.specs.Shape.{DefinitionShape}
 use Rattle.definition.specs.declared.Definition.{Definition}
-use Rattle.definition.specs.declared.File.{File}
 use Rattle.records.specs.Records.{record-length, slot-offset}
 use Rattle.layout.specs.Layout.{store-size}
 use Rattle.fields.specs.Fields.{write-fields, nulls, null-record}
-use Rattle.fields.specs.Laws.{nulls-length, write-fields-length, null-record-length}
+use Rattle.fields.specs.Laws.{null-record-is, write-fields-length, null-record-length}
 use Rattle.lists.specs.Parts.{length-piece}
 use Rattle.store.specs.Store.{record-of, file-part}
 use Rattle.store.specs.Laws.{fits-whole}
@@ -48,15 +46,6 @@ slot-of r n (replaces e) = some (new-record r n (target-isn r n))
 slot-of r n (erases e) = none
 slot-of r n (adds e) = some (new-record r n (target-isn r n))
 slot-of r n (adds-there e) = some (new-record r n (target-isn r n))
-
--- a record of nulls over one that is as wide (`fields`, Laws is the place for it)
-null-record-is : (f : File) (content : List ℕ) → length content ≡ record-length f → null-record f content ≡ nulls (fields-of f)
-unfolding null-record record-length
-null-record-is f content e =
-    let gs = fields-of f in
-    let long : 0 + length (nulls gs) ≡ length content = omega (arith, nulls-length gs) in
-    rw (le-leb (record-length f) (length content) (omega arith), sets-eq (nulls gs) content 0 (omega arith), drop-of-length-le content {i = 0 + length (nulls gs)} (omega arith))
-    (append-nil (nulls gs))
 
 module _ (r : Request) (n : Nucleus) (s : DefinitionShape (definition-of n)) (room : store-size (definition-of n) ≤ length (n .store)) (t : Aim r n) where
   abbrev d : Definition

@@ -9,21 +9,21 @@ use lib.Dec.{eqb}
 use lib.ListN.{length, set, length-set}
 use borrow.Author.Tests.{not-true}
 use Rattle.lists.specs.Tests.{and-left, and-right}
-use Rattle.lists.specs.Sift.{sift}
+use Rattle.lists.specs.Sift.{sift, all-left}
 use Rattle.definition.specs.declared.Definition.{Definition}
 use Rattle.removal.specs.Removal.{stays}
 use Rattle.removal.specs.declared.Removal.the-variants.{All}
 use Rattle.entries.specs.declared.Entry.{Entry}
 use Rattle.transactions.specs.Machine.{Laws, Machine, end, back-out, allowed}
 use Rattle.transactions.specs.Theorems.{kept-act}
-use Rattle.ground.specs.Lists.{all-over}
+use Rattle.lists.specs.Maps.{all-over}
 use Rattle.ground.specs.Ground.{laws}
 use Rattle.ground.specs.Acts.{act-end, act-back-out}
 use Rattle.nucleus.specs.Users.{ended}
 use Rattle.nucleus.specs.Nucleus.{Nucleus, max-users, user-of, with-user, with-state, entries-of}
 use Rattle.nucleus.specs.Clock.{removed, restored, backed-out}
 use Rattle.nucleus.specs.declared.User.{User}
-use Rattle.history.specs.Lists.{all-implies, all-set, all-left}
+use Rattle.lists.specs.Every.{all-implies, all-set}
 use Rattle.history.specs.Journal.{Journal, Change, member, strikes, commits, struck}
 use Rattle.history.specs.Journal as journal
 use Rattle.history.specs.Updates.{updates, logged}

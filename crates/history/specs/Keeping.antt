@@ -16,7 +16,7 @@ use Rattle.nucleus.specs.Nucleus.{Nucleus, max-users, user-of, with-user, with-
 use Rattle.nucleus.specs.WellMade.{marks-made, data-made}
 use Rattle.nucleus.specs.declared.User.{User}
 use Rattle.nucleus.specs.declared.EtData.{EtData}
-use Rattle.history.specs.Lists.{all-implies, all-set}
+use Rattle.lists.specs.Every.{all-implies, all-set}
 use Rattle.history.specs.Journal.{Journal, new-member, with-member}
 use Rattle.history.specs.Lent.{Lent}
 use Rattle.history.specs.Kept.{Kept, People, Told, definition-of, user-sound, is-active, entry-active, change-sound, member-of, one-of-users}

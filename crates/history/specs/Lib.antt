@@ -17,7 +17,6 @@ pub mod Passing
 pub mod QueueMoves
 pub mod HoldMoves
 pub mod Holding
-pub mod Lists
 pub mod ReadShape
 pub mod SetUpKept
 pub mod Releasing

@@ -13,7 +13,7 @@ use Rattle.nucleus.specs.Nucleus.{Nucleus, max-users, user-of, with-clock, with
 use Rattle.nucleus.specs.Clock as nucleus
 use Rattle.nucleus.specs.Clock.{backed-out, removed}
 use Rattle.nucleus.specs.declared.User.{User}
-use Rattle.history.specs.Lists.{all-getD, all-index}
+use Rattle.lists.specs.Every.{all-getD, all-index}
 use Rattle.history.specs.Journal as journal
 use Rattle.history.specs.Journal.{Journal, member, struck, is-late}
 use Rattle.history.specs.Lent.{Lent}

@@ -16,7 +16,7 @@ use Rattle.nucleus.specs.WellMade.{data-made}
 use Rattle.nucleus.specs.Clock.{removed, backed-out}
 use Rattle.nucleus.specs.Effects.{held, data-for, next-sequence, ended-for}
 use Rattle.nucleus.specs.declared.User.{User}
-use Rattle.history.specs.Lists.{all-set, all-getD}
+use Rattle.lists.specs.Every.{all-set, all-getD}
 use Rattle.history.specs.Journal.{Journal, with-member, begun, struck, limited}
 use Rattle.history.specs.Journal as journal
 use Rattle.history.specs.Lent.{Lent}

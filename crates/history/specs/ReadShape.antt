@@ -28,7 +28,7 @@ use Rattle.reading.specs.Grammar.{room-for-file, add-file, last-file, room-for-
 use Rattle.items.specs.declared.Item.{Item}
 use Rattle.items.specs.declared.Item.the-variants.{File as item-file, Field as item-field, End as item-end, Broken as item-broken}
 use Rattle.reading.specs.declared.Reading.{Reading}
-use Rattle.history.specs.Lists.{each-parts, each-later}
+use Rattle.lists.specs.Every.{each-parts, each-later}
 
 -- ---- what is valid has numbers of one and two bytes
 within-small : (a b n : ℕ) → b < 256 → within a b n ≡ true → n < 256

@@ -11,7 +11,7 @@ use lib.ListN.{length}
 use borrow.Author.Tests.{eqb-true, ltb-true, ltb-false, ne-eqb}
 use Rattle.lists.specs.Tests.{and-false, cond, Outcome, holds, fails, outcome, within, within-inside, within-least, within-most, not-both, and-left, and-right}
 use Rattle.lists.specs.Folds.{any, all}
-use Rattle.lists.specs.Sift.{any-sift}
+use Rattle.lists.specs.Sift.{any-sift, elem-both}
 use Rattle.definition.specs.Table.{beyond, file-at, field-at, field-count, is-unique}
 use Rattle.definition.specs.Shape.{file-shape-at}
 use Rattle.definition.specs.declared.Definition.{Definition}
@@ -21,8 +21,7 @@ use Rattle.layout.specs.Layout.{place, file-found, isn-found}
 use Rattle.layout.specs.Laws.{place-found}
 use Rattle.records.specs.declared.Found.{Found}
 use Rattle.records.specs.declared.Found.the-variants.{At, Nowhere}
-use Rattle.lists.specs.Numbers.{numbers}
-use Rattle.ground.specs.Lists.{in-numbers}
+use Rattle.lists.specs.Numbers.{numbers, in-numbers}
 use Rattle.store.specs.Store as records
 use Rattle.store.specs.Store.{slot-count, file-part}
 use Rattle.transactions.specs.Machine.{replay}
@@ -34,7 +33,6 @@ use Rattle.ground.specs.Ground.{uniques}
 use Rattle.nucleus.specs.Nucleus.{Nucleus}
 use Rattle.nucleus.specs.declared.User.{User}
 use Rattle.nucleus.specs.Target.{part-in}
-use Rattle.history.specs.Lists.{elem-both}
 use Rattle.history.specs.Journal.{Journal, Change, apply, is-at, replayed, record-told}
 use Rattle.history.specs.Run.{record-in}
 use Rattle.history.specs.Claim.{SameRecords, UniqueValues, file-numbered}

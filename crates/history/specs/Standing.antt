@@ -17,7 +17,7 @@ use Rattle.ground.specs.Reading.{entries-small}
 use Rattle.nucleus.specs.Nucleus.{Nucleus, entries-of}
 use Rattle.nucleus.specs.WellMade.{too-short, entry-made, user-made, well-made}
 use Rattle.nucleus.specs.declared.User.{User}
-use Rattle.history.specs.Lists.{all-implies, all-index}
+use Rattle.lists.specs.Every.{all-implies, all-index}
 use Rattle.history.specs.Journal.{Journal}
 use Rattle.history.specs.Lent.{Lent}
 use Rattle.history.specs.Kept.{Kept, definition-of, user-sound, entry-active}

@@ -10,7 +10,7 @@ use lib.ListN.{set}
 use lib.Seq.{set-getD}
 use borrow.Author.Tests.{eqb-true, not-true}
 use Rattle.lists.specs.Tests.{cond, Outcome, holds, fails, outcome, within, within-least, within-most, not-both, and-left, and-right}
-use Rattle.lists.specs.Sift.{sift}
+use Rattle.lists.specs.Sift.{sift, sift-all}
 use Rattle.nucleus.specs.Commands.{command-of, one-of, has-option}
 use Rattle.nucleus.specs.Users.{opened, marked, is-due}
 use Rattle.nucleus.specs.Responses.{number}
@@ -26,7 +26,7 @@ use Rattle.nucleus.specs.declared.Call.{Call}
 use Rattle.nucleus.specs.declared.Response.{Response}
 use Rattle.nucleus.specs.declared.Response.the-variants.{BackedOut, CommandUnknown, UserUnknown}
 use Rattle.nucleus.specs.declared.User.{User}
-use Rattle.history.specs.Lists.{all-implies, sift-all}
+use Rattle.lists.specs.Every.{all-implies}
 use Rattle.history.specs.Journal as journal
 use Rattle.history.specs.Journal.{Journal, Change, new-member, member, strikes, struck, is-early, fed}
 use Rattle.history.specs.Statements.{unusable}

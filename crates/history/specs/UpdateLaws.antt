@@ -19,11 +19,10 @@ use Rattle.definition.specs.declared.Definition.{Definition}
 use Rattle.records.specs.Records.{record-length}
 use Rattle.validity.specs.Validity.{valid}
 use Rattle.fields.specs.Fields.{write-fields, nulls}
-use Rattle.fields.specs.Laws.{nulls-length, write-fields-length, unnamed-kept}
-use Rattle.lists.specs.Numbers.{numbers}
+use Rattle.fields.specs.Laws.{null-width, write-fields-length, unnamed-kept}
+use Rattle.lists.specs.Numbers.{numbers, all-numbers}
 use Rattle.store.specs.Store.{field-value}
 use Rattle.transactions.specs.Slots.{Bytes, Slot}
-use Rattle.ground.specs.Lists.{all-numbers}
 use Rattle.ground.specs.Keys.{key-file, file-of, known, known-found, known-file}
 use Rattle.ground.specs.Store.{fit-width, fit}
 use Rattle.ground.specs.StoreLaws.{known-fit}
@@ -32,10 +31,6 @@ use Rattle.history.specs.Journal.{Update, replace, erase, add, apply}
 use Rattle.history.specs.Updates.{FileUpdate, suits, judged, updates}
 
 -- ---- lengths
-null-width : (f : File) → length (nulls (fields-of f)) ≡ record-length f
-unfolding record-length
-null-width f = nulls-length (fields-of f)
-
 -- A1 leaves a record's width as it was, N1 and N2 make one of the file's width
 apply-width : (d : Definition) (file : ℕ) (u : Update) (x : Slot) → suits d file u x ≡ true → fit-width (file-of d file) (apply (file-of d file) u x) ≡ true
 unfolding apply

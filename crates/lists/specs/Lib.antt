@@ -1,5 +1,6 @@
 pub mod Tests
 pub mod Folds
+pub mod Every
 pub mod Distinct
 pub mod Maps
 pub mod Rest

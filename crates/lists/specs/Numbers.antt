@@ -1,10 +1,14 @@
 -- The numbers from one to another.
 -- Assumes nothing.
-use mathlib.Core.Path.{_≡_}
+use mathlib.Core.Path.{_≡_, refl}
+use mathlib.Core.Bool.{Bool, true}
 use mathlib.Core.List.{List, [], _∷_}
 use Prim.Native.Nat.{ℕ, zero, suc, _+_, _-_, _≤_, _<_}
 use native.Mathlib.Omega.{arith}
-use Rattle.lists.specs.Folds.{Each}
+use lib.Dec.{eqb}
+use borrow.Author.Tests.{eqb-false}
+use Rattle.lists.specs.Tests.{Outcome, holds, fails, outcome}
+use Rattle.lists.specs.Folds.{all, any, Each}
 
 -- n numbers, from k up
 abbrev pub numbers : ℕ → ℕ → List ℕ
@@ -25,3 +29,16 @@ from-to-none k n h = let e : n + 1 - k ≡ zero = omega arith in rw e
 pub each-number : (P : ℕ → Type 0) (n k : ℕ) → ((m : ℕ) → k ≤ m → m < k + n → P m) → Each P (numbers n k)
 each-number P zero k h = tt
 each-number P (suc n) k h = (h k (omega arith) (omega arith), each-number P n (k + 1) (λ m a b. h m (omega arith) (omega arith)))
+
+-- ---- numbers in a row
+pub in-numbers : (n k m : ℕ) → k ≤ m → m < k + n → any (eqb m) (numbers n k) ≡ true
+in-numbers zero k m a b = absurd (omega arith)
+in-numbers (suc n) k m a b = go (outcome (eqb m k)) (λ h. in-numbers n (k + 1) m h (omega arith))
+  where
+    go : Outcome (eqb m k) → (k + 1 ≤ m → any (eqb m) (numbers n (k + 1)) ≡ true) → any (eqb m) (numbers (suc n) k) ≡ true
+    go (holds e) later = rw e
+    go (fails e) later = rw e (later (omega (arith, eqb-false m k e)))
+
+pub all-numbers : (p : ℕ → Bool) (n k : ℕ) → ((m : ℕ) → k ≤ m → m < k + n → p m ≡ true) → all p (numbers n k) ≡ true
+all-numbers p zero k h = refl
+all-numbers p (suc n) k h = rw (h k (omega arith) (omega arith)) (all-numbers p n (k + 1) (λ m a b. h m (omega arith) (omega arith)))

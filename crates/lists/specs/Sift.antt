@@ -1,13 +1,13 @@
 -- The elements that pass a test, in order, and what folds and maps make of them.
 -- Assumes nothing.
 use mathlib.Core.Path.{_≡_, refl, sym, _∙_, ap}
-use mathlib.Core.Bool.{Bool, true, false, _&&_, _||_, and-comm}
+use mathlib.Core.Bool.{Bool, true, false, not, _&&_, _||_, and-comm}
 use mathlib.Core.List.{List, [], _∷_, _++_, map}
 use Prim.Native.Nat.{ℕ}
 use lib.Dec.{eqb}
-use borrow.Author.Tests.{eqb-true}
-use Rattle.lists.specs.Tests.{not-both, and-left, and-right, or-left, or-right}
-use Rattle.lists.specs.Folds.{any, all}
+use borrow.Author.Tests.{eqb-true, not-true}
+use Rattle.lists.specs.Tests.{not-both, Outcome, holds, fails, outcome, and-left, and-right, and-false, or-left, or-right}
+use Rattle.lists.specs.Folds.{any, all, distinct, Each}
 
 module _ {A : Type 0} where
   abbrev pub keep : Bool → A → List A → List A
@@ -98,3 +98,53 @@ elem-all p d (x ∷ xs) h i = go (eqb d x) refl (elem-all p d xs (and-right (p x
     go : (b : Bool) → eqb d x ≡ b → (any (eqb d) xs ≡ true → p d ≡ true) → p d ≡ true
     go true e f = rw (eqb-true d x e) (and-left (p x) (all p xs) h)
     go false e f = f (rw e at i)
+
+-- ---- what is left of a list
+module _ {A : Type 0} where
+  -- it passes a test that those that stay pass
+  pub all-left : (p r q : A → Bool) → ((x : A) → p x ≡ true → r x ≡ true → q x ≡ true) → (xs : List A) → all p xs ≡ true → all q (sift r xs) ≡ true
+  all-left p r q f [] h = refl
+  all-left p r q f (x ∷ xs) h = go (outcome (r x)) (all-left p r q f xs (and-right (p x) (all p xs) h))
+    where
+      go : Outcome (r x) → all q (sift r xs) ≡ true → all q (sift r (x ∷ xs)) ≡ true
+      go (holds t) i = rw (t, f x (and-left (p x) (all p xs) h) t) i
+      go (fails t) i = rw t i
+
+  -- it is the list, where each element stays
+  pub sift-all : (p : A → Bool) (xs : List A) → all p xs ≡ true → sift p xs ≡ xs
+  sift-all p [] h = refl
+  sift-all p (x ∷ xs) h = rw (and-left (p x) (all p xs) h) (ap (λ l. x ∷ l) (sift-all p xs (and-right (p x) (all p xs) h)))
+
+pub each-sift : {A : Type 0} (P : A → Type 0) (p : A → Bool) (l : List A) → Each P l → Each P (sift p l)
+each-sift P p [] h = tt
+each-sift P p (x ∷ l) h = go (p x) (each-sift P p l (h .1))
+  where
+    go : (b : Bool) → Each P (sift p l) → Each P (keep b x (sift p l))
+    go true r = (h .0, r)
+    go false r = r
+
+module _ {A : Type 0} where
+  any-left : (p r : A → Bool) (l : List A) → any r l ≡ false → any r (sift p l) ≡ false
+  any-left p r [] h = refl
+  any-left p r (x ∷ l) h = go (p x) (any-left p r l (or-right (r x) (any r l) h))
+    where
+      go : (b : Bool) → any r (sift p l) ≡ false → any r (keep b x (sift p l)) ≡ false
+      go true i = rw (or-left (r x) (any r l) h) i
+      go false i = i
+
+  pub distinct-sift : (like : A → A → Bool) (p : A → Bool) (l : List A) → distinct like l ≡ true → distinct like (sift p l) ≡ true
+  distinct-sift like p [] h = refl
+  distinct-sift like p (x ∷ l) h = go (p x) (distinct-sift like p l (and-right (not (any (like x) l)) (distinct like l) h))
+    where
+      go : (b : Bool) → distinct like (sift p l) ≡ true → distinct like (keep b x (sift p l)) ≡ true
+      go true i = rw (any-left p (like x) l (not-true (any (like x) l) (and-left (not (any (like x) l)) (distinct like l) h))) i
+      go false i = i
+
+-- an element of a list that passes a test
+pub elem-both : (q : ℕ → Bool) (f : ℕ) (xs : List ℕ) → any (eqb f) xs ≡ true → q f ≡ true → any (λ x. q x && eqb f x) xs ≡ true
+elem-both q f [] h t = h
+elem-both q f (x ∷ xs) h t = go (outcome (eqb f x)) (elem-both q f xs)
+  where
+    go : Outcome (eqb f x) → (any (eqb f) xs ≡ true → q f ≡ true → any (λ y. q y && eqb f y) xs ≡ true) → any (λ y. q y && eqb f y) (x ∷ xs) ≡ true
+    go (holds e) later = let same : f ≡ x = eqb-true f x e in rw (e, ← same, t)
+    go (fails e) later = rw (e, and-false (q x)) (later (rw e at h) t)

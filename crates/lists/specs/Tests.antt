@@ -1,6 +1,6 @@
 -- Tests: a choice by a test, a number between two, and what `&&`, `||` and `not` say of their parts.
 -- Assumes nothing.
-use mathlib.Core.Path.{_≡_, refl, ap}
+use mathlib.Core.Path.{_≡_, refl, sym, ap}
 use mathlib.Core.Bool.{Bool, true, false, _&&_, _||_}
 -- `cond b x y` is x where b holds, else y
 pub use mathlib.Core.Bool.{cond, and-false, or-true}
@@ -11,7 +11,7 @@ use mathlib.Core.List.{List, [], _∷_}
 use lib.Dec.{T, leb, eqb, eqb-refl}
 use lib.ListN.{length, drop, getD, drop-of-length-le}
 use lib.Seq.{drop-cons}
-use borrow.Author.Tests.{le-leb, lt-leb, leb-true, eqb-true}
+use borrow.Author.Tests.{le-leb, lt-leb, leb-true, eqb-true, eq-eqb}
 
 -- at least the first number and at most the second
 abbrev pub within : ℕ → ℕ → ℕ → Bool
@@ -110,3 +110,19 @@ eqbs-next xs ys i h k = rw (add-one i, drop-cons xs i 0 h, drop-cons ys i 0 k)
 
 pub eqbs-none : (xs ys : List ℕ) (i : ℕ) → length xs ≤ i → length ys ≤ i → eqbs (drop i xs) (drop i ys) ≡ true
 eqbs-none xs ys i h k = rw (drop-of-length-le xs h, drop-of-length-le ys k)
+
+-- ---- either way round
+-- two tests that hold together
+pub both-ways : (a b : Bool) → (a ≡ true → b ≡ true) → (b ≡ true → a ≡ true) → a ≡ b
+both-ways true b f g = sym (f refl)
+both-ways false true f g = g refl
+both-ways false false f g = refl
+
+pub eqb-comm : (m n : ℕ) → eqb m n ≡ eqb n m
+eqb-comm m n = both-ways (eqb m n) (eqb n m) (λ h. eq-eqb n m (sym (eqb-true m n h))) (λ h. eq-eqb m n (sym (eqb-true n m h)))
+
+pub eqbs-comm : (a b : List ℕ) → eqbs a b ≡ eqbs b a
+eqbs-comm [] [] = refl
+eqbs-comm [] (y ∷ ys) = refl
+eqbs-comm (x ∷ xs) [] = refl
+eqbs-comm (x ∷ xs) (y ∷ ys) = rw (eqb-comm x y, eqbs-comm xs ys)

@@ -16,7 +16,8 @@ use Rattle.validity.specs.Validity.{valid}
 use Rattle.file_validity.specs.FileValidity.{file-valid, field-valid, name-valid}
 use Rattle.items.specs.Items.{format-of, option-of, file-item, field-item, item-of}
 use Rattle.reading.specs.Grammar.{read-from, read-table}
-use Rattle.values.specs.Values.{stored, allowed, null-value, below-zero}
+use Rattle.values.specs.Values.{stored, null-value, below-zero}
+use Rattle.digits.specs.Digits.{allowed}
 use Rattle.elements.specs.Elements.{field-named, format-valid, element, places, named-twice, length-needed, needed-within}
 use Rattle.fields.specs.Fields.{fits, read-fields, write-fields, values-allowed, null-record}
 use Rattle.store.specs.Store.{slot-fits, has-record, get, put-record, empty, fresh, file-part, with-part}

@@ -5,7 +5,8 @@ use mathlib.Core.Path.{_≡_, refl}
 use mathlib.Core.Bool.{Bool, true, false}
 use mathlib.Core.List.{List, [], _∷_, _++_, map}
 use lib.ListN.{length}
-use Rattle.values.specs.Values.{allowed, below-zero, stored, null-value, Decimal, decimal}
+use Rattle.digits.specs.Digits.{allowed}
+use Rattle.values.specs.Values.{below-zero, stored, null-value, Decimal, decimal}
 use Rattle.definition.specs.declared.Format.{Format}
 use Rattle.definition.specs.declared.Format.the-variants.{Alphanumeric, Binary, Unpacked, Packed}
 

@@ -3,7 +3,7 @@
 -- Assumes nothing.
 use Prim.Native.Nat.{ℕ, zero, suc, _-_, _+_, _*_, _/_, _%_, _≤_, _<_}
 use mathlib.Core.Path.{_≡_, refl, _∙_}
-use mathlib.Core.Bool.{Bool, true, false, _&&_, _||_, and-true, or-false}
+use mathlib.Core.Bool.{Bool, true, false, _&&_, _||_, or-false}
 use mathlib.Core.List.{List, [], _∷_, map}
 use native.Mathlib.Nat.{le-refl}
 use native.Mathlib.Omega.{arith}
@@ -12,20 +12,18 @@ use lib.ListN.{length, replicate, length-set, length-replicate, getD-replicate}
 use lib.Seq.{take-set-le, getD-set-same, set-set}
 use borrow.Author.Tests.{ne-eqb, eqb-true, eqb-false, not-false}
 use Rattle.lists.specs.Tests.{cond, Outcome, holds, fails, outcome, and-left, or-left, or-right, not-both}
-use Rattle.lists.specs.Folds.{all, any, Each, each-at, all-append, any-append, all-replicate, each-replicate, each-set}
+use Rattle.lists.specs.Folds.{all, any, Each, each-at, any-append, all-replicate, each-replicate, each-set}
 use Rattle.lists.specs.Rest.{take-replicate}
-use Rattle.values.specs.Values.{unpacked-digit, digit, positive-sign, negative-sign, not-zero, halves, front, last, digits, sign, allowed, below-zero, stored-sign, with-sign, stored, null-byte, null-value, digit-value, number-after, decimal}
+use Rattle.digits.specs.Digits.{unpacked-digit, digit, positive-sign, negative-sign, halves, front, last, digits, sign, allowed}
+use Rattle.values.specs.Values.{not-zero, below-zero, stored-sign, with-sign, stored, null-byte, null-value, digit-value, number-after, decimal}
 use Rattle.definition.specs.declared.Format.{Format}
 use Rattle.definition.specs.declared.Format.the-variants.{Alphanumeric, Binary, Unpacked, Packed}
+use Rattle.digits.specs.Laws.{plain-allowed, binary-allowed, unpacked-allowed, packed-allowed, all-digits}
 
--- bytes that any are allowed in are stored as they are
+-- bytes of any value are stored as they are
 pub plain-stored : (v : List ℕ) → stored Alphanumeric v ≡ v
 unfolding stored
 plain-stored v = refl
-
-pub plain-allowed : (v : List ℕ) → allowed Alphanumeric v ≡ true
-unfolding allowed
-plain-allowed v = refl
 
 -- ---- lengths
 pub stored-length : (f : Format) (v : List ℕ) → length (stored f v) ≡ length v
@@ -43,9 +41,6 @@ null-length Unpacked n = length-replicate n 0x30
 null-length Packed n = length-set (replicate n 0) (n - 1) 0x0F ∙ length-replicate n 0
 
 -- ---- packed digits: both half bytes of every byte but the last, and the high one of the last
-pub all-digits : (v : List ℕ) → all digit (digits v) ≡ (all digit (halves (front v)) && digit (last v / 16))
-all-digits v = rw (all-append digit (halves (front v)) (last v / 16 ∷ []), and-true (digit (last v / 16)))
-
 pub any-digits : (v : List ℕ) → any not-zero (digits v) ≡ (any not-zero (halves (front v)) || not-zero (last v / 16))
 any-digits v = rw (any-append not-zero (halves (front v)) (last v / 16 ∷ []), or-false (not-zero (last v / 16)))
 
@@ -120,9 +115,10 @@ module _ (v : List ℕ) (h : 1 ≤ length v) where
   unfolding stored
   sign-stored = sign-with-sign v (stored-sign v) h (stored-sign-below v)
 
-  packed-allowed : allowed Packed v ≡ true → allowed Packed (stored Packed v) ≡ true
-  unfolding allowed
-  packed-allowed a = rw (digits-stored, sign-stored, and-left (all digit (digits v)) _ a) (sign-allowed (below-zero v))
+  still-allowed : allowed Packed v ≡ true → allowed Packed (stored Packed v) ≡ true
+  still-allowed a =
+      let all-are : all digit (digits v) ≡ true = and-left (all digit (digits v)) _ (rw (packed-allowed v) at a) in
+      rw (packed-allowed (stored Packed v), digits-stored, sign-stored, all-are) (sign-allowed (below-zero v))
 
   below-zero-stays : below-zero (stored Packed v) ≡ below-zero v
   unfolding below-zero
@@ -143,12 +139,12 @@ module _ (v : List ℕ) (h : 1 ≤ length v) where
 
 -- ---- the stored form of an allowed value is allowed
 pub stored-allowed : (f : Format) (v : List ℕ) → allowed f v ≡ true → allowed f (stored f v) ≡ true
-unfolding stored allowed
-stored-allowed Alphanumeric v a = refl
-stored-allowed Binary v a = refl
+unfolding stored
+stored-allowed Alphanumeric v a = a
+stored-allowed Binary v a = a
 stored-allowed Unpacked v a = a
-stored-allowed Packed [] a = not-both false a refl
-stored-allowed Packed (b ∷ bs) a = packed-allowed (b ∷ bs) (omega arith) a
+stored-allowed Packed [] a = not-both false (rw (packed-allowed []) at a) refl
+stored-allowed Packed (b ∷ bs) a = still-allowed (b ∷ bs) (omega arith) a
 
 -- ---- a stored form is its own stored form, and means the number that was given: of any bytes
 pub stored-twice : (f : Format) (v : List ℕ) → stored f (stored f v) ≡ stored f v
@@ -205,13 +201,13 @@ pub null-stored : (f : Format) (n : ℕ) → stored f (null-value f n) ≡ null-
 null-stored f n = rw (null-form f n) (stored-twice f (replicate n (null-byte f)))
 
 pub null-allowed : (f : Format) (n : ℕ) → 1 ≤ n → allowed f (null-value f n) ≡ true
-unfolding allowed null-value
-null-allowed Alphanumeric n h = refl
-null-allowed Binary n h = refl
-null-allowed Unpacked n h = all-replicate unpacked-digit n 0x30 refl
+unfolding null-value
+null-allowed Alphanumeric n h = plain-allowed _
+null-allowed Binary n h = binary-allowed _
+null-allowed Unpacked n h = rw (unpacked-allowed (replicate n 0x30)) (all-replicate unpacked-digit n 0x30 refl)
 null-allowed Packed n h =
     let m : 1 ≤ length (replicate n zero) = omega (arith, count-zeros n) in
-    rw (null-packed n, digits-stored (replicate n 0) m, sign-stored (replicate n 0) m, all-digits-zeros n) (sign-allowed (below-zero (replicate n 0)))
+    rw (null-packed n, packed-allowed (stored Packed (replicate n 0)), digits-stored (replicate n 0) m, sign-stored (replicate n 0) m, all-digits-zeros n) (sign-allowed (below-zero (replicate n 0)))
 
 -- ---- bytes
 abbrev pub Bytes : List ℕ → Type 0

@@ -12,7 +12,8 @@ use lib.Seq.{set-split}
 use borrow.Author.Tests.{leb-true, eqb-true, eqb-false, ne-eqb}
 use Rattle.lists.specs.Tests.{Outcome, holds, fails, outcome, not-both, within-least, within-most, and-left, and-right}
 use Rattle.lists.specs.Folds.{all, any}
-use Rattle.values.specs.Values.{unpacked-digit, digit, not-zero, halves, front, last, digits, allowed, below-zero, stored-sign, with-sign, stored, unpacked-value, digit-value, number-after, decimal}
+use Rattle.digits.specs.Digits.{unpacked-digit, digit, halves, front, last, digits, allowed}
+use Rattle.values.specs.Values.{not-zero, below-zero, stored-sign, with-sign, stored, unpacked-value, digit-value, number-after, decimal}
 use Rattle.definition.specs.declared.Format.the-variants.{Unpacked, Packed}
 
 -- ---- digits that are read by a rule `value`, each good one as a number below ten of its own

@@ -1,53 +1,15 @@
--- One value of a field, a row of bytes, by the field's format (document 01, 'Files and their definition'): which bytes are allowed, the form
--- in which they are stored, the null value, and the number that they mean.
-use Prim.Native.Nat.{ℕ, _+_, _-_, _*_, _/_, _%_}
-use mathlib.Core.Bool.{Bool, true, false, not, _&&_, _||_}
-use mathlib.Core.List.{List, [], _∷_, _++_, map}
-use lib.Dec.{eqb, leb}
-use lib.ListN.{length, getD, set, take, replicate}
-use Rattle.lists.specs.Tests.{cond, within}
-use Rattle.lists.specs.Folds.{all, any}
+-- One value of a field, a row of bytes, by the field's format (document 01, 'Files and their definition'): the form in which it is stored, the
+-- null value, and the number that it means.
+use Prim.Native.Nat.{ℕ, _+_, _-_, _*_, _/_}
+use mathlib.Core.Bool.{Bool, false, not, _&&_}
+use mathlib.Core.List.{List, [], _∷_, map}
+use lib.Dec.{eqb}
+use lib.ListN.{length, set, replicate}
+use Rattle.lists.specs.Tests.{cond}
+use Rattle.lists.specs.Folds.{any}
 use Rattle.definition.specs.declared.Format.{Format}
 use Rattle.definition.specs.declared.Format.the-variants.{Alphanumeric, Binary, Unpacked, Packed}
-
--- ---- "`U` digits X'30' to X'39'"
-abbrev pub unpacked-digit : ℕ → Bool
-unpacked-digit b = within 0x30 0x39 b
-
--- ---- "Packed: two digits a byte, the last half byte a sign: C or F positive, D negative"
-abbrev pub digit : ℕ → Bool
-digit h = leb h 9
-
-abbrev pub positive-sign : ℕ → Bool
-positive-sign h = eqb h 0xC || eqb h 0xF
-
-abbrev pub negative-sign : ℕ → Bool
-negative-sign h = eqb h 0xD
-
--- the two half bytes of each byte
-abbrev pub halves : List ℕ → List ℕ
-halves [] = []
-halves (b ∷ bs) = b / 16 ∷ b % 16 ∷ halves bs
-
--- the last byte, 0 where there is none, and those before it
-abbrev pub last : List ℕ → ℕ
-last v = getD v (length v - 1) 0
-
-abbrev pub front : List ℕ → List ℕ
-front v = take (length v - 1) v
-
-abbrev pub digits : List ℕ → List ℕ
-digits v = halves (front v) ++ last v / 16 ∷ []
-
-abbrev pub sign : List ℕ → ℕ
-sign v = last v % 16
-
--- ---- "a digit or sign not allowed" (55), said the other way. Packed bytes need a sign, so no byte at all is not allowed there
-unfoldable pub allowed : Format → List ℕ → Bool
-allowed Alphanumeric v = true
-allowed Binary v = true
-allowed Unpacked v = all unpacked-digit v
-allowed Packed v = all digit (digits v) && (positive-sign (sign v) || negative-sign (sign v))
+use Rattle.digits.specs.Digits.{unpacked-digit, digit, negative-sign, last, digits, sign}
 
 -- ---- "It is stored with F or D, and a zero always with F": of any bytes, whether allowed or not
 abbrev pub not-zero : ℕ → Bool

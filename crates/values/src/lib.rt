@@ -4,7 +4,8 @@ ghost use lib.Dec.{eqb};
 ghost use lib.ListN.{length, replicate};
 ghost use Rattle.lists.specs.Tests.{cond};
 ghost use Rattle.lists.specs.Folds.{any};
-ghost use Rattle.values.specs.Values.{negative-sign, not-zero, halves, stored-sign, stored, null-byte, null-value};
+ghost use Rattle.digits.specs.Digits.{negative-sign, halves};
+ghost use Rattle.values.specs.Values.{not-zero, stored-sign, stored, null-byte, null-value};
 ghost use Rattle.definition.specs.declared.Format.the-variants.{Packed};
 use definition::Format;
 

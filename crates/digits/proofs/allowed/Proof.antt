@@ -1,6 +1,6 @@
 -- `allowed` meets its contract, format by format.
 -- Assumes nothing.
-use Rattle.values.specs.Values.{allowed}
+use Rattle.digits.specs.Digits.{allowed}
 use borrow.Author.Needs.{needs}
 use Rattle.digits.proofs.allowed.Statement.{statement}
 use Rattle.digits.proofs.allowed.Tie as tie

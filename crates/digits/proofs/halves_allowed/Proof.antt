@@ -7,7 +7,7 @@ use lib.ListN.{length, drop, drop-of-length-le}
 use borrow.Author.Tests.{le-leb, lt-leb}
 use Rattle.lists.specs.Folds.{all}
 use Rattle.lists.specs.Rest.{drop-more}
-use Rattle.values.specs.Values.{digit, halves}
+use Rattle.digits.specs.Digits.{digit, halves}
 use Rattle.digits.proofs.halves_allowed.Statement.{statement}
 use Rattle.digits.proofs.halves_allowed.Tie as tie
 

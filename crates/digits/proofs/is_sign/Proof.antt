@@ -4,7 +4,7 @@ use Prim.Native.Nat.{ℕ}
 use mathlib.Core.Path.{sym, ap}
 use mathlib.Core.Bool.{Bool, _||_}
 use borrow.Author.Tests.{ne-eqb}
-use Rattle.values.specs.Values.{positive-sign, negative-sign}
+use Rattle.digits.specs.Digits.{positive-sign, negative-sign}
 use Rattle.digits.proofs.is_sign.Statement.{statement}
 use Rattle.digits.proofs.is_sign.Tie as tie
 

@@ -7,8 +7,8 @@ use lib.ListN.{length}
 use lib.Seq.{length-take-le}
 use borrow.Author.Tests.{not-true, not-false, le-leb, lt-leb}
 use Rattle.lists.specs.Rest.{empty}
-use Rattle.values.specs.Values.{allowed}
-use Rattle.values.specs.Laws.{all-digits}
+use Rattle.digits.specs.Digits.{allowed}
+use Rattle.digits.specs.Laws.{all-digits}
 use borrow.Author.Needs.{needs}
 use Rattle.digits.proofs.packed_allowed.Statement.{statement}
 use Rattle.digits.proofs.packed_allowed.Tie as tie

@@ -7,7 +7,7 @@ use lib.ListN.{length, drop, drop-of-length-le}
 use Rattle.lists.specs.Tests.{within-inside, within-below, within-above}
 use Rattle.lists.specs.Folds.{all}
 use Rattle.lists.specs.Rest.{drop-more}
-use Rattle.values.specs.Values.{unpacked-digit}
+use Rattle.digits.specs.Digits.{unpacked-digit}
 use Rattle.digits.proofs.unpacked_allowed.Statement.{statement}
 use Rattle.digits.proofs.unpacked_allowed.Tie as tie
 

@@ -1,7 +1,7 @@
 -- `allowed_span` meets its contract.
 -- Assumes nothing.
 use mathlib.Core.Path.{ap, _∙_}
-use Rattle.values.specs.Values.{allowed}
+use Rattle.digits.specs.Digits.{allowed}
 use Rattle.lists.specs.Parts.{part-take}
 use borrow.Author.Needs.{needs}
 use Rattle.fields.proofs.allowed_span.Statement.{statement}

@@ -7,7 +7,8 @@ use mathlib.Core.Path.{_≡_, refl, sym, _∙_}
 use native.Mathlib.Omega.{arith}
 use Rattle.lists.specs.Folds.{any}
 use Rattle.lists.specs.Rest.{drop-more}
-use Rattle.values.specs.Values.{not-zero, halves}
+use Rattle.values.specs.Values.{not-zero}
+use Rattle.digits.specs.Digits.{halves}
 use Rattle.values.proofs.any_not_zero.Statement.{statement}
 use Rattle.values.proofs.any_not_zero.Tie as tie
 

@@ -1,4 +1,4 @@
--- Laws of the abstract queue where a key has one entry; `transactions`, View is the place for them.
+-- Laws of the queue where a key has one entry.
 -- Assumes nothing.
 use Prim.Native.Nat.{ℕ, zero, suc, _<_}
 use native.Mathlib.Nat.{le-of-suc-le-suc, not-suc-le-zero}
