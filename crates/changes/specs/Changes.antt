@@ -1,13 +1,21 @@
 -- The first change of an entry, and the image that it keeps (document 01, 'Hold, change, end').
 use Prim.Native.Nat.{ℕ, _+_, _*_}
-use mathlib.Core.Bool.{Bool, _&&_, _||_}
+use mathlib.Core.Bool.{Bool, true, _&&_, _||_}
 use mathlib.Core.List.{List}
 use lib.Dec.{leb}
-use lib.ListN.{length, getD}
+use lib.ListN.{length, getD, set}
 use lib.Seq.{sets}
 use Rattle.lists.specs.Tests.{cond}
-use Rattle.entries.specs.Entries.{unpack-of}
-use Rattle.queue.specs.Queue.{change}
+use Rattle.entries.specs.Entries.{pack-of, unpack-of}
+use Rattle.entries.specs.declared.Entry.{Entry}
+
+-- ---- the entry at a place; a place past the end changes nothing
+-- an entry after a change
+abbrev pub mark : Bool → Entry → Entry
+mark existed e = record { user = e .user; file = e .file; isn = e .isn; changed = true; existed = existed }
+
+unfoldable pub change : List ℕ → ℕ → Bool → List ℕ
+change words at existed = set words at (pack-of (mark existed (unpack-of (getD words at 0))))
 
 -- ---- "Only the first change of an entry keeps an image": the record's bytes at the front of the image of the entry at a place
 unfoldable pub keep-image : List ℕ → ℕ → ℕ → List ℕ → List ℕ

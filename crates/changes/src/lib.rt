@@ -2,7 +2,24 @@
 ghost use mathlib.Core.Path.{_≡_};
 ghost use Prim.Native.Nat.{_+_, _*_};
 ghost use lib.Dec.{leb};
-ghost use Rattle.changes.specs.Changes.{keep-image, first-change-queue, first-change-images};
+ghost use Rattle.changes.specs.Changes.{change, keep-image, first-change-queue, first-change-images};
+use entries::Entry;
+
+// The entry at a place is changed from now on; `existed` says whether a record was there before.
+fn change(queue: &mut [u64], at: usize, existed: bool)
+    ensures { λ _. ⌜ now (queue .exit) ≡ change (now (queue .entry)) at existed ⌝ }
+{
+    if at < queue.len() {
+        let e = entries::unpack(queue[at]);
+        queue[at] = entries::pack(Entry {
+            user: e.user,
+            file: e.file,
+            isn: e.isn,
+            changed: true,
+            existed,
+        });
+    }
+}
 
 // Whether the block at a place, of `width` bytes like those before it, ends within `length` bytes.
 fn fits_at(at: usize, width: usize, length: usize) -> bool
@@ -49,7 +66,7 @@ pub fn first_change(
     if e.changed {
         return;
     }
-    queue::change(queue, at, existed);
+    change(queue, at, existed);
     if existed {
         keep_image(images, width, at, content);
     }

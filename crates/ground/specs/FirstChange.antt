@@ -19,14 +19,15 @@ use Rattle.definition.specs.Shape.{DefinitionShape}
 use Rattle.definition.specs.declared.Definition.{Definition}
 use Rattle.records.specs.Records.{record-length}
 use Rattle.layout.specs.Layout.{image-length}
-use Rattle.queue.specs.Queue.{mark as mark-entry, holder, change}
+use Rattle.changes.specs.Changes.{mark as mark-entry, change, keep-image, settled, first-change-queue, first-change-images}
+use Rattle.queue.specs.Queue.{holder}
 use Rattle.entries.specs.Entries.{entries}
 use Rattle.lists.specs.Maps.{map-set}
 use Rattle.entries.specs.Laws.{no-entry, length-entries}
-use Rattle.queue.specs.Laws.{entries-change, Found, held-found}
+use Rattle.changes.specs.Laws.{entries-change}
+use Rattle.queue.specs.Laws.{Found, held-found}
 use Rattle.entries.specs.declared.Entry.{Entry}
 use Rattle.queue.specs.declared.Lookup.the-variants.{Held}
-use Rattle.changes.specs.Changes.{keep-image, settled, first-change-queue, first-change-images}
 use Rattle.images.specs.Images.{hold-of, with-images}
 use Rattle.images.specs.Laws.{with-images-set, with-images-image}
 use Rattle.transactions.specs.Slots.{Slot}

@@ -15,17 +15,18 @@ use Rattle.definition.specs.Shape.{DefinitionShape}
 use Rattle.definition.specs.declared.Definition.{Definition}
 use Rattle.layout.specs.Layout.{store-size, image-length}
 use Rattle.repeats.specs.Repeats.{alike, repeated}
-use Rattle.queue.specs.Queue.{mark, holder, append, change}
+use Rattle.changes.specs.Changes.{mark, change, keep-image, settled, first-change-queue, first-change-images}
+use Rattle.queue.specs.Queue.{holder, append}
 use Rattle.entries.specs.Entries.{entries}
 use Rattle.lists.specs.Distinct.{distinct-last}
 use Rattle.entries.specs.Laws.{Shape, no-entry}
-use Rattle.queue.specs.Laws.{free-none, entries-append, length-append-entry, entries-change, length-change}
+use Rattle.queue.specs.Laws.{free-none, entries-append, length-append-entry}
+use Rattle.changes.specs.Laws.{entries-change, length-change}
 use Rattle.entries.specs.declared.Entry.{Entry}
 use Rattle.queue.specs.declared.Lookup.the-variants.{Free}
 use Rattle.removal.specs.Removal.{stays, remove-queue, remove-images, remove-count}
 use Rattle.removal.specs.Laws.{remove-count-most, length-remove-queue, length-remove-images, entries-remove}
 use Rattle.removal.specs.declared.Removal.{Removal}
-use Rattle.changes.specs.Changes.{keep-image, settled, first-change-queue, first-change-images}
 use Rattle.hold.specs.Hold.{restore}
 use Rattle.transactions.specs.Slots.{Slot}
 use Rattle.lists.specs.Maps.{all-over, distinct-over}

@@ -13,13 +13,12 @@ use Rattle.definition.specs.declared.Definition.{Definition}
 use Rattle.layout.specs.Layout.{store-size, place}
 use Rattle.records.specs.declared.Found.the-variants as found-at
 use Rattle.store.specs.Store.{record-of}
-use Rattle.queue.specs.Queue.{mark as mark-entry, change}
+use Rattle.changes.specs.Changes.{mark as mark-entry, change, settled, first-change-queue}
 use Rattle.entries.specs.Entries.{entries}
 use Rattle.entries.specs.Laws.{no-entry}
-use Rattle.queue.specs.Laws.{entries-change}
+use Rattle.changes.specs.Laws.{entries-change}
 use Rattle.entries.specs.declared.Entry.{Entry}
 use Rattle.queue.specs.declared.Lookup.the-variants.{Held}
-use Rattle.changes.specs.Changes.{settled, first-change-queue}
 use Rattle.transactions.specs.Slots.{Slot}
 use Rattle.transactions.specs.Machine.{Entry as MachineEntry, with-hold, mark}
 use Rattle.lists.specs.Maps.{all-over}

@@ -17,12 +17,12 @@ use Rattle.layout.specs.Layout.{store-size, image-length}
 use Rattle.entries.specs.Entries.{entries}
 use Rattle.entries.specs.Laws.{Shape, length-entries}
 use Rattle.entries.specs.declared.Entry.{Entry}
-use Rattle.queue.specs.Queue.{holder, append, change}
+use Rattle.queue.specs.Queue.{holder, append}
+use Rattle.changes.specs.Changes.{change, keep-image, settled, first-change-queue, first-change-images}
 use Rattle.queue.specs.declared.Lookup.the-variants.{Free}
 use Rattle.removal.specs.Closing.{set-count-most, closed, closed-rest, length-closed}
 use Rattle.removal.specs.Removal.{stays, staying, remove-queue, remove-images, remove-count}
 use Rattle.removal.specs.declared.Removal.{Removal}
-use Rattle.changes.specs.Changes.{keep-image, settled, first-change-queue, first-change-images}
 use Rattle.hold.specs.Hold.{restore}
 use Rattle.transactions.specs.Slots.{Slot}
 use Rattle.ground.specs.Keys.{known}

@@ -23,12 +23,12 @@ use Rattle.fields.specs.Fields.{fits, read-fields, write-fields, values-allowed
 use Rattle.store.specs.Store.{slot-fits, has-record, get, put-record, empty, fresh, file-part, with-part}
 use Rattle.search.specs.Search.{lowest, elsewhere}
 use Rattle.entries.specs.Entries.{pack-of, unpack-of, entries}
-use Rattle.queue.specs.Queue.{holder, held-by, append, change}
+use Rattle.queue.specs.Queue.{holder, held-by, append}
+use Rattle.changes.specs.Changes.{change, keep-image, settled, first-change-queue, first-change-images}
 use Rattle.repeats.specs.Repeats.{repeated}
 use Rattle.removal.specs.Closing.{closed}
 use Rattle.images.specs.Images.{image-has}
 use Rattle.removal.specs.Removal.{remove-queue, remove-images, remove-count}
-use Rattle.changes.specs.Changes.{keep-image, settled, first-change-queue, first-change-images}
 use Rattle.hold.specs.Hold.{put-back-in, put-back, restore}
 use Rattle.nucleus.specs.Text.{text}
 use Rattle.nucleus.specs.Commands.{commands, place-of, code, command-of, has-option, blank, option-H}

@@ -6,7 +6,7 @@ use mathlib.Core.List.{List, [], _∷_}
 use lib.Dec.{eqb}
 use Rattle.lists.specs.Folds.{all}
 use Rattle.entries.specs.Entries.{pack-of, unpack-of, entries}
-use Rattle.queue.specs.Queue.{holder, held-by, append, change}
+use Rattle.queue.specs.Queue.{holder, held-by, append}
 use Rattle.entries.specs.declared.Entry.{Entry}
 use Rattle.queue.specs.declared.Lookup.{Lookup}
 use Rattle.queue.specs.declared.Lookup.the-variants.{Held, Free}
@@ -52,11 +52,7 @@ counts : (eqb (held-by (entries words 3) 1) 2 && (eqb (held-by (entries words 2)
 unfolding first second words pack-of unpack-of entries held-by
 counts = refl
 
--- ---- a new entry, and a change
+-- ---- a new entry
 added : entries (append words 2 second) 3 ≡ first ∷ second ∷ second ∷ []
 unfolding first second words pack-of unpack-of entries append
 added = refl
-
-changed : entries (change words 1 false) 2 ≡ first ∷ record { user = 32; file = 1; isn = 4095; changed = true; existed = false } ∷ []
-unfolding first second words pack-of unpack-of entries change
-changed = refl

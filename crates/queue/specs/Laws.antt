@@ -1,4 +1,4 @@
--- Laws of the hold queue: what looking up finds; what adding and changing an entry make of the list of entries.
+-- Laws of the hold queue: what looking up finds; what adding an entry makes of the list of entries.
 -- Assumes nothing.
 use Prim.Native.Nat.{ℕ, zero, suc, _+_, _≤_, suc-le-suc, _<_}
 use native.Mathlib.Nat.{le-of-suc-le-suc}
@@ -10,9 +10,9 @@ use lib.ListN.{length, getD, set, length-set}
 use lib.Seq.{getD-set-same, set-out}
 use Rattle.lists.specs.Folds.{any}
 use Rattle.lists.specs.Tests.{Outcome, holds, fails, outcome}
-use Rattle.entries.specs.Entries.{bit, pack-of, unpack-of, is-of, entries}
-use Rattle.entries.specs.Laws.{Shape, unpack-pack, unpack-shape, no-entry, entry-at, entries-last, entries-set, entries-kept}
-use Rattle.queue.specs.Queue.{mark, seek, holder, append, change}
+use Rattle.entries.specs.Entries.{bit, pack-of, is-of, entries}
+use Rattle.entries.specs.Laws.{Shape, unpack-pack, no-entry, entries-last, entries-kept}
+use Rattle.queue.specs.Queue.{seek, holder, append}
 use Rattle.queue.specs.declared.Lookup.{Lookup}
 use Rattle.queue.specs.declared.Lookup.the-variants.{Held, Free}
 use Rattle.entries.specs.declared.Entry.{Entry}
@@ -89,8 +89,7 @@ module _ (file isn : ℕ) where
   pub free-none : (es : List Entry) → holder es file isn ≡ Free → any (is-of file isn) es ≡ false
   free-none es h = sym (held-any file isn es) ∙ ap is-held h
 
--- ---- what adding and changing make of the entries
--- an entry more
+-- ---- an entry more
 pub entries-append : (words : List ℕ) (count : ℕ) (e : Entry) → Shape e → count < length words → entries (append words count e) (count + 1) ≡ entries words count ++ e ∷ []
 unfolding append
 entries-append words count e s h =
@@ -110,19 +109,3 @@ append-full words count e h = set-out words count (pack-of e) h
 pub length-append-entry : (words : List ℕ) (count : ℕ) (e : Entry) → length (append words count e) ≡ length words
 unfolding append
 length-append-entry words count e = length-set words count (pack-of e)
-
-mark-shape : (existed : Bool) (e : Entry) → Shape e → Shape (mark existed e)
-mark-shape existed e s = record { user = s .user; file = s .file; isn = s .isn }
-
--- one entry marked, the others as they were
-pub entries-change : (words : List ℕ) (count at : ℕ) (existed : Bool) → at < count → entries (change words at existed) count ≡ set (entries words count) at (mark existed (getD (entries words count) at no-entry))
-unfolding change
-entries-change words count at existed h =
-    entries-set words count at (pack-of (mark existed (unpack-of (getD words at 0)))) h
-    ∙ ap (set (entries words count) at)
-    (unpack-pack (mark existed (unpack-of (getD words at 0))) (mark-shape existed (unpack-of (getD words at 0)) (unpack-shape (getD words at 0)))
-    ∙ ap (mark existed) (sym (entry-at words count at h)))
-
-pub length-change : (words : List ℕ) (at : ℕ) (existed : Bool) → length (change words at existed) ≡ length words
-unfolding change
-length-change words at existed = length-set words at (pack-of (mark existed (unpack-of (getD words at 0))))

@@ -1,12 +1,11 @@
--- The hold queue: who holds what, a new entry, and a change.
+-- The hold queue: who holds what, and a new entry.
 use Prim.Native.Nat.{ℕ, _+_}
-use mathlib.Core.Bool.{Bool, true}
 use mathlib.Core.List.{List, [], _∷_}
 use lib.Dec.{eqb}
-use lib.ListN.{getD, set}
+use lib.ListN.{set}
 use Rattle.lists.specs.Tests.{cond}
 use Rattle.lists.specs.Folds.{total}
-use Rattle.entries.specs.Entries.{bit, pack-of, unpack-of, is-of}
+use Rattle.entries.specs.Entries.{bit, pack-of, is-of}
 use Rattle.entries.specs.declared.Entry.{Entry}
 use Rattle.queue.specs.declared.Lookup.{Lookup}
 use Rattle.queue.specs.declared.Lookup.the-variants.{Held, Free}
@@ -27,13 +26,6 @@ one-of user e = bit (eqb (e .user) user)
 unfoldable pub held-by : List Entry → ℕ → ℕ
 held-by es user = total (one-of user) es
 
--- ---- what is written; a place past the end changes nothing
+-- ---- a new entry; a place past the end changes nothing
 unfoldable pub append : List ℕ → ℕ → Entry → List ℕ
 append words count e = set words count (pack-of e)
-
--- an entry after a change
-abbrev pub mark : Bool → Entry → Entry
-mark existed e = record { user = e .user; file = e .file; isn = e .isn; changed = true; existed = existed }
-
-unfoldable pub change : List ℕ → ℕ → Bool → List ℕ
-change words at existed = set words at (pack-of (mark existed (unpack-of (getD words at 0))))

@@ -2,7 +2,7 @@
 // length counts as its length.
 ghost use mathlib.Core.Path.{_≡_};
 ghost use Rattle.entries.specs.Entries.{is-of, entries};
-ghost use Rattle.queue.specs.Queue.{holder, held-by, append, change};
+ghost use Rattle.queue.specs.Queue.{holder, held-by, append};
 use entries::Entry;
 
 // What looking up a file and an ISN finds: the entry and its place, or nobody.
@@ -56,21 +56,5 @@ pub fn append(queue: &mut [u64], count: usize, e: Entry)
 {
     if count < queue.len() {
         queue[count] = entries::pack(e);
-    }
-}
-
-// The entry at a place is changed from now on; `existed` says whether a record was there before.
-pub fn change(queue: &mut [u64], at: usize, existed: bool)
-    ensures { λ _. ⌜ now (queue .exit) ≡ change (now (queue .entry)) at existed ⌝ }
-{
-    if at < queue.len() {
-        let e = entries::unpack(queue[at]);
-        queue[at] = entries::pack(Entry {
-            user: e.user,
-            file: e.file,
-            isn: e.isn,
-            changed: true,
-            existed,
-        });
     }
 }

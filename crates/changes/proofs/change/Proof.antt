@@ -1,10 +1,10 @@
 -- `change` meets its contract. Assumes nothing.
 use mathlib.Core.Path.{sym}
 use lib.Seq.{set-out}
-use Rattle.queue.specs.Queue.{change}
+use Rattle.changes.specs.Changes.{change}
 use borrow.Author.Needs.{needs}
-use Rattle.queue.proofs.change.Statement.{statement}
-use Rattle.queue.proofs.change.Tie as tie
+use Rattle.changes.proofs.change.Statement.{statement}
+use Rattle.changes.proofs.change.Tie as tie
 
 mul-unpack : tie.Need-mul-unpack
 mul-unpack c = search needs
