@@ -23,7 +23,7 @@ use Rattle.records.specs.declared.Found.the-variants as found-at
 use Rattle.lists.specs.Numbers.{from-to, each-number}
 use Rattle.search.specs.Search.{first-of, lowest}
 use Rattle.store.specs.Store.{record-of}
-use Rattle.store.specs.Store as records
+use Rattle.store.specs.Laws.{get-is}
 use Rattle.search.specs.Laws.{lowest-found}
 use Rattle.search.specs.declared.Occupied.{Occupied}
 use Rattle.search.specs.declared.Occupied.the-variants.{At, Nowhere}
@@ -174,6 +174,5 @@ module _ (r : Request) (n : Nucleus) (i isn : ℕ) (here : place (definition-of 
 
   pub slot-is : isn < isn-bound → store-size (definition-of n) ≤ length (n .store)
       → get (definition-of n) (n .store) (key (r .call .file) isn) ≡ cond (record-at r n isn) (some (record-of (file r n) (part r n) isn)) none
-  unfolding records.get
   slot-is small room =
-      get-key (definition-of n) (n .store) room (r .call .file) isn i small here ∙ rw here
+      get-key (definition-of n) (n .store) room (r .call .file) isn i small here ∙ get-is _ _ isn ∙ rw here

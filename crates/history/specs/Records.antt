@@ -7,9 +7,8 @@ use mathlib.Core.Bool.{true, false}
 use mathlib.Core.List.{List, [], _∷_}
 use mathlib.Core.Option.{Option, none, some}
 use lib.Dec.{eqb, ltb}
-use lib.ListN.{length}
 use borrow.Author.Tests.{eqb-true, ltb-true, ltb-false, ne-eqb}
-use Rattle.lists.specs.Tests.{and-false, cond, Outcome, holds, fails, outcome, within, within-inside, within-least, within-most, not-both, and-left, and-right}
+use Rattle.lists.specs.Tests.{and-false, cond, Outcome, holds, fails, outcome, within, within-inside, not-both, and-left, and-right}
 use Rattle.lists.specs.Folds.{any, all}
 use Rattle.lists.specs.Sift.{any-sift, elem-both}
 use Rattle.definition.specs.Table.{beyond, file-at, field-at, field-count, is-unique}
@@ -22,8 +21,8 @@ use Rattle.layout.specs.Laws.{place-found}
 use Rattle.records.specs.declared.Found.{Found}
 use Rattle.records.specs.declared.Found.the-variants.{At, Nowhere}
 use Rattle.lists.specs.Numbers.{numbers, in-numbers}
-use Rattle.store.specs.Store as records
-use Rattle.store.specs.Store.{slot-count, file-part}
+use Rattle.store.specs.Store.{get as get-record, file-part}
+use Rattle.store.specs.Laws.{get-outside}
 use Rattle.transactions.specs.Machine.{replay}
 use Rattle.transactions.specs.Theorems.{same-slots, no-value-twice}
 use Rattle.ground.specs.Keys.{isn-bound, key, key-file, file-of-key, isn-of-key, key-test, file-of, known, keys, keys-known}
@@ -47,15 +46,6 @@ same-file : (d : Definition) (file : ℕ) → file-of d file ≡ file-found d (p
 unfolding file-of
 same-file d file = refl
 
--- no record at an ISN that the file does not have
-none-outside : (f : File) (part : List ℕ) (isn : ℕ) → (1 ≤ isn → isn ≤ f .«max_isn» → ⊥) → records.get f part isn ≡ none
-unfolding records.get records.has-record
-none-outside f part isn bad = go (outcome (within 1 (slot-count f (length part)) isn))
-  where
-    go : Outcome (within 1 (slot-count f (length part)) isn) → records.get f part isn ≡ none
-    go (holds t) = absurd (bad (within-least 1 (slot-count f (length part)) isn t) (omega (arith, within-most 1 (slot-count f (length part)) isn t)))
-    go (fails t) = rw t
-
 -- a unique field in use is one of those that are judged
 unique-place : (f : File) (i : ℕ) → i < field-count f → field-at f i .option ≡ Unique → any (eqb i) (uniques f) ≡ true
 unfolding uniques
@@ -77,9 +67,9 @@ module _ (capacity : ℕ) (lent : Lent) (n : Nucleus) (j : Journal) (k : Kept ca
         get-is d (n .store) (k .sized .made .store-room) (key file isn)
         ∙ rw (file-of-key file isn small, isn-of-key file isn small) (go (place d file))
       where
-        go : (x : Found) → get-at d x isn (n .store) ≡ records.get (file-found d x) (part-in d x (n .store)) isn
+        go : (x : Found) → get-at d x isn (n .store) ≡ get-record (file-found d x) (part-in d x (n .store)) isn
         go (At i) = refl
-        go Nowhere = sym (none-outside beyond [] isn (λ a b. absurd (omega arith)))
+        go Nowhere = sym (get-outside beyond [] isn (λ a b. absurd (omega arith)))
 
     -- one change of the journal, and of the machine's
     same-change : (c : Change) → c .isn < isn-bound → (x : Option (List ℕ))
@@ -115,7 +105,7 @@ module _ (capacity : ℕ) (lent : Lent) (n : Nucleus) (j : Journal) (k : Kept ca
         rw (apart, and-false (eqb (c .file) file)) (no-change cs (and-right (change-sound (n .state .users) c) (all (change-sound (n .state .users)) cs) h) x)
 
     none-large : record-in d n file isn ≡ none
-    none-large = none-outside (file-found d (place d file)) (part-in d (place d file) (n .store)) isn (λ a b. absurd (omega (arith, b, highest (place d file) refl, large)))
+    none-large = get-outside (file-found d (place d file)) (part-in d (place d file) (n .store)) isn (λ a b. absurd (omega (arith, b, highest (place d file) refl, large)))
       where
         highest : (x : Found) → place d file ≡ x → file-found d x .«max_isn» < isn-bound
         highest (At i) e = file-shape-at d (k .sized .shape) i (omega (arith, place-found d (k .sized .shape) file i e .0)) .small-max-isn
@@ -152,8 +142,8 @@ module _ (capacity : ℕ) (lent : Lent) (n : Nucleus) (j : Journal) (k : Kept ca
             inside : Outcome (within 1 (file-at d i .«max_isn») isn) → within 1 (file-at d i .«max_isn») isn ≡ true
             inside (holds t) = t
             inside (fails t) =
-                some-none (rw e (none-outside (file-at d i) (file-part d i (n .store)) isn (λ p q. not-both (within 1 (file-at d i .«max_isn») isn) (within-inside 1 (file-at d i .«max_isn») isn p q) t)))
-        go Nowhere e = some-none (rw e (none-outside beyond [] isn (λ p q. absurd (omega arith))))
+                some-none (rw e (get-outside (file-at d i) (file-part d i (n .store)) isn (λ p q. not-both (within 1 (file-at d i .«max_isn») isn) (within-inside 1 (file-at d i .«max_isn») isn p q) t)))
+        go Nowhere e = some-none (rw e (get-outside beyond [] isn (λ p q. absurd (omega arith))))
 
     there-slot : get d (n .store) (key file isn) ≡ some a
     there-slot = slot-in file isn there-small ∙ there

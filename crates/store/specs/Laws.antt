@@ -12,7 +12,7 @@ use lib.Dec.{eqb, ltb}
 use lib.ListN.{length, getD, set, length-set}
 use lib.Seq.{getD-set-other, set-getD, take-all}
 use borrow.Author.Tests.{ltb-true, ltb-false, eq-eqb, eqb-true}
-use Rattle.lists.specs.Tests.{within-inside, within-least, within-most, Outcome, holds, fails, outcome, and-left, and-right, and-false}
+use Rattle.lists.specs.Tests.{cond, within-inside, within-least, within-most, Outcome, holds, fails, outcome, and-left, and-right, and-false}
 use Rattle.lists.specs.Folds.{Each}
 use Rattle.definition.specs.declared.File.{File}
 use Rattle.records.specs.Records.{record-length, slot-length, slot-offset, file-size}
@@ -68,6 +68,18 @@ module _ (f : File) (part : List ℕ) (isn : ℕ) where
   pub get-none : has-record f part isn ≡ false → get f part isn ≡ none
   unfolding get
   get-none h = rw h
+
+  pub get-is : get f part isn ≡ cond (has-record f part isn) (some (record-of f part isn)) none
+  unfolding get
+  get-is = refl
+
+  -- no record at an ISN that the file does not have
+  pub get-outside : (1 ≤ isn → isn ≤ f .«max_isn» → ⊥) → get f part isn ≡ none
+  get-outside out = go (outcome (has-record f part isn))
+    where
+      go : Outcome (has-record f part isn) → get f part isn ≡ none
+      go (holds h) = absurd (out (fits-least (has-fits h)) (fits-most (has-fits h)))
+      go (fails h) = get-none h
 
   pub some-has : (r : List ℕ) → get f part isn ≡ some r → has-record f part isn ≡ true
   some-has r e = go (outcome (has-record f part isn))
