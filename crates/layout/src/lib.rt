@@ -1,4 +1,5 @@
-// Where the files of a table lie in the store, and their places by number. Every size fits: of any kept definition the store has less than 2^33 bytes.
+// Where the files of a table lie in the store, and their places by number. Every size fits: of any kept definition the store has less than 2^33
+// bytes.
 ghost use mathlib.Core.Path.{_≡_};
 ghost use Prim.Native.Nat.{max};
 ghost use Rattle.records.specs.Records.{file-size};
