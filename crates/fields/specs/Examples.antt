@@ -9,24 +9,24 @@ use lib.ListN.{set}
 use Rattle.definition.specs.Table.{no-file}
 use Rattle.records.specs.Records.{field-offset, record-length}
 use Rattle.digits.specs.Digits.{allowed}
-use Rattle.values.specs.Values.{below-zero, stored, null-value}
+use Rattle.values.specs.Values.{below-zero, stored}
 use Rattle.elements.specs.Elements.{field-named, places, length-needed}
-use Rattle.fields.specs.Fields.{fits, read-fields, write-fields, values-allowed, null-record}
+use Rattle.fields.specs.Fields.{fits, read-fields, write-fields, values-allowed}
 use Rattle.definition.specs.declared.Format.the-variants.{Alphanumeric, Unpacked, Packed}
 use Rattle.definition.specs.declared.FieldOption.the-variants.{Plain}
 use Rattle.definition.specs.declared.Field.{Field}
 use Rattle.definition.specs.declared.File.{File}
 
-aa : Field
+unfoldable pub aa : Field
 aa = record { name = record { first = 65; second = 65 }; length = 2; format = Alphanumeric; option = Plain }
 
-ab : Field
+unfoldable pub ab : Field
 ab = record { name = record { first = 65; second = 66 }; length = 2; format = Packed; option = Plain }
 
-ac : Field
+unfoldable pub ac : Field
 ac = record { name = record { first = 65; second = 67 }; length = 1; format = Unpacked; option = Plain }
 
-three : File
+unfoldable pub three : File
 three = record { number = 1; «max_isn» = 3; count = 3; fields = set (set (set (no-file .fields) 0 aa) 1 ab) 2 ac }
 
 -- `AB.` `AB,AA.` `AC,AB.` `AB,AA,AB.`
@@ -42,13 +42,9 @@ ac-ab = 65 ∷ 67 ∷ 44 ∷ 65 ∷ 66 ∷ 46 ∷ []
 ab-aa-ab : List ℕ
 ab-aa-ab = 65 ∷ 66 ∷ 44 ∷ 65 ∷ 65 ∷ 44 ∷ 65 ∷ 66 ∷ 46 ∷ []
 
--- ---- a record of nulls: spaces, a packed zero, a digit 0. What lies past the record stays, and a part that is too short stays as it is
-nulled : List ℕ
+-- ---- a record of nulls: spaces, a packed zero, a digit 0
+unfoldable pub nulled : List ℕ
 nulled = 0x20 ∷ 0x20 ∷ 0x00 ∷ 0x0F ∷ 0x30 ∷ []
-
-nulls-right : map (null-record three) ((1 ∷ 2 ∷ 3 ∷ 4 ∷ 5 ∷ []) ∷ (1 ∷ 2 ∷ 3 ∷ 4 ∷ 5 ∷ 6 ∷ []) ∷ (1 ∷ 2 ∷ 3 ∷ 4 ∷ []) ∷ []) ≡ nulled ∷ (0x20 ∷ 0x20 ∷ 0x00 ∷ 0x0F ∷ 0x30 ∷ 6 ∷ []) ∷ (1 ∷ 2 ∷ 3 ∷ 4 ∷ []) ∷ []
-unfolding aa ab ac three nulled null-value record-length null-record
-nulls-right = refl
 
 -- ---- values by a format buffer: whether they are allowed, and the record of nulls with them
 record Written : Type 0 where

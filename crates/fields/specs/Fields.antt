@@ -7,16 +7,15 @@ use lib.Dec.{leb}
 use lib.ListN.{length, take, drop}
 use lib.Seq.{sets}
 use Rattle.lists.specs.Tests.{cond}
-use Rattle.definition.specs.Table.{field-at, fields-of}
+use Rattle.definition.specs.Table.{field-at}
 use Rattle.records.specs.Records.{field-length, field-offset, record-length}
 use Rattle.digits.specs.Digits.{allowed}
-use Rattle.values.specs.Values.{stored, null-value}
+use Rattle.values.specs.Values.{stored}
 use Rattle.elements.specs.Elements.{places, length-needed}
 use Rattle.records.specs.declared.Found.{Found}
 use Rattle.records.specs.declared.Found.the-variants.{At, Nowhere}
 use Rattle.fields.specs.declared.Span.{Span}
 use Rattle.definition.specs.declared.Format.the-variants.{Alphanumeric}
-use Rattle.definition.specs.declared.Field.{Field}
 use Rattle.definition.specs.declared.File.{File}
 
 -- ---- one field of a record
@@ -77,11 +76,3 @@ allowed-in f (k ∷ ks) values = allowed (field-at f k .format) (front-value f k
 -- the row of response 55, said the other way: the record buffer has the named values, and each is allowed
 unfoldable pub values-allowed : File → List ℕ → List ℕ → Bool
 values-allowed f format values = leb (length-needed f format) (length values) && allowed-in f (places f format) values
-
--- ---- "Unnamed fields are null": a record of nulls
-abbrev pub nulls : List Field → List ℕ
-nulls [] = []
-nulls (g ∷ gs) = null-value (g .format) (g .length) ++ nulls gs
-
-unfoldable pub null-record : File → List ℕ → List ℕ
-null-record f content = cond (leb (record-length f) (length content)) (sets content 0 (nulls (fields-of f))) content

@@ -1,30 +1,28 @@
 -- Laws for callers: lengths; fields that are not named stay as they are; what was written by a format buffer and is read by the same one is the
--- stored form of what was given; every field of a record of nulls is null.
+-- stored form of what was given.
 -- Assumes nothing.
-use Prim.Native.Nat.{ℕ, zero, suc, _+_, _≤_, _<_}
-use native.Mathlib.Nat.{le-of-suc-le-suc}
+use Prim.Native.Nat.{ℕ, _+_, _≤_, _<_}
 use native.Mathlib.Omega.{arith}
 use mathlib.Core.Path.{_≡_, refl, ap, _∙_}
 use mathlib.Core.Bool.{Bool, true, false, not}
-use mathlib.Core.List.{List, [], _∷_, _++_, append-assoc, append-nil}
+use mathlib.Core.List.{List, [], _∷_, _++_}
 use mathlib.Core.Logic.{inl, inr}
 use lib.Dec.{eqb, leb, ltb}
-use lib.ListN.{length, take, drop, getD, length-take, length-drop, length-append, drop-of-length-le}
-use lib.Seq.{sets, sets-eq, length-sets, take-at, drop-append-add, getD-take, length-take-le}
+use lib.ListN.{length, length-take, length-drop}
+use lib.Seq.{sets, length-sets, length-take-le}
 use borrow.Author.Tests.{le-leb, leb-true, ltb-true, ltb-false, eqb-false, not-true}
 use Rattle.lists.specs.Tests.{cond, Outcome, holds, fails, outcome, and-left, and-right, or-left, or-right}
 use Rattle.lists.specs.Folds.{any, total, distinct, Each}
-use Rattle.definition.specs.Table.{no-field, field-at, field-count, fields-of}
+use Rattle.definition.specs.Table.{field-at, field-count}
 use Rattle.definition.specs.Shape.{FileShape}
-use Rattle.records.specs.Records.{field-length, field-offset, record-length}
-use Rattle.records.specs.Laws.{field-offset-is, record-length-is, field-before, field-within}
-use Rattle.values.specs.Values.{stored, null-value}
-use Rattle.values.specs.Laws.{stored-length, null-length}
+use Rattle.records.specs.Records.{field-offset, record-length}
+use Rattle.records.specs.Laws.{field-before, field-within}
+use Rattle.values.specs.Values.{stored}
+use Rattle.values.specs.Laws.{stored-length}
 use Rattle.elements.specs.Elements.{places, named-twice, length-at, length-needed}
 use Rattle.elements.specs.Laws.{places-inside, places-distinct, needed-total}
 use Rattle.lists.specs.Parts.{Apart, sets-other, sets-same}
-use Rattle.fields.specs.Fields.{field-bytes, front-value, behind, read-out, write-in, nulls, fits, read-fields, write-fields, null-record}
-use Rattle.definition.specs.declared.Field.{Field}
+use Rattle.fields.specs.Fields.{field-bytes, front-value, behind, read-out, write-in, fits, read-fields, write-fields}
 use Rattle.definition.specs.declared.File.{File}
 
 -- ---- lengths: nothing grows or shrinks
@@ -48,14 +46,6 @@ write-fields-length f format values content = go (fits f format values content)
   where
     go : (b : Bool) → length (cond b (write-in f (places f format) values content) content) ≡ length content
     go true = write-in-length f (places f format) values content
-    go false = refl
-
-pub null-record-length : (f : File) (content : List ℕ) → length (null-record f content) ≡ length content
-unfolding null-record
-null-record-length f content = go (leb (record-length f) (length content))
-  where
-    go : (b : Bool) → length (cond b (sets content 0 (nulls (fields-of f))) content) ≡ length content
-    go true = length-sets content 0 (nulls (fields-of f))
     go false = refl
 
 -- ---- fields that are not named
@@ -124,41 +114,3 @@ module _ (f : File) (s : FileShape f) where
       let whole : record-length f ≤ length (write-in f ks values content) = omega (arith, write-in-length f ks values content) in
       rw (h, le-leb (length-needed f format) (length buffer) room, le-leb (record-length f) (length (write-in f ks values content)) whole)
       (ap (sets buffer 0) (read-written ks (places-inside f format) (places-distinct f format t) values content (omega (arith, needed-total f format)) long))
-
--- ---- a record of nulls
-pub nulls-length : (gs : List Field) → length (nulls gs) ≡ total field-length gs
-nulls-length [] = refl
-nulls-length (g ∷ gs) = omega (arith, length-append (null-value (g .format) (g .length)) (nulls gs), null-length (g .format) (g .length), nulls-length gs)
-
-pub null-width : (f : File) → length (nulls (fields-of f)) ≡ record-length f
-null-width f = rw (record-length-is f) (nulls-length (fields-of f))
-
-null-at : (gs : List Field) (k : ℕ) (rest : List ℕ) → k < length gs → take (field-length (getD gs k no-field)) (drop (total field-length (take k gs)) (nulls gs ++ rest)) ≡ null-value (getD gs k no-field .format) (field-length (getD gs k no-field))
-null-at [] k rest h = absurd (omega arith)
-null-at (g ∷ gs) zero rest h =
-    let v = null-value (g .format) (g .length) in
-    rw (append-assoc v (nulls gs) rest) (take-at v (nulls gs ++ rest) (g .length) (null-length (g .format) (g .length)))
-null-at (g ∷ gs) (suc k) rest h =
-    let v = null-value (g .format) (g .length) in
-    let skip : drop (g .length + total field-length (take k gs)) (v ++ (nulls gs ++ rest)) ≡ drop (total field-length (take k gs)) (nulls gs ++ rest) = rw (null-length (g .format) (g .length)) at (drop-append-add v (nulls gs ++ rest) (total field-length (take k gs))) in
-    rw (append-assoc v (nulls gs) rest, skip) (null-at gs k rest (le-of-suc-le-suc h))
-
-module _ (f : File) (s : FileShape f) where
-  pub null-field : (k : ℕ) → k < field-count f → (content : List ℕ) → record-length f ≤ length content → field-bytes f k (null-record f content) ≡ null-value (field-at f k .format) (length-at f k)
-  unfolding null-record
-  null-field k q content h =
-      let gs = fields-of f in
-      let size : record-length f ≡ total field-length gs = record-length-is f in
-      let many : length gs ≡ field-count f = length-take-le (field-count f) (f .fields) (omega (arith, s .places)) in
-      let whole : 0 + length (nulls gs) ≤ length content = omega (arith, nulls-length gs) in
-      let g : getD gs k no-field ≡ field-at f k = getD-take (field-count f) (f .fields) k no-field q in
-      rw (le-leb (record-length f) (length content) h, sets-eq (nulls gs) content 0 whole, field-offset-is f k) (rw g at (null-at gs k (drop (0 + length (nulls gs)) content) (omega arith)))
-
--- over a record of the file's length it is the nulls, and nothing else
-pub null-record-is : (f : File) (content : List ℕ) → length content ≡ record-length f → null-record f content ≡ nulls (fields-of f)
-unfolding null-record
-null-record-is f content e =
-    let gs = fields-of f in
-    let long : 0 + length (nulls gs) ≡ length content = omega (arith, null-width f) in
-    rw (le-leb (record-length f) (length content) (omega arith), sets-eq (nulls gs) content 0 (omega arith), drop-of-length-le content {i = 0 + length (nulls gs)} (omega arith))
-    (append-nil (nulls gs))

@@ -5,9 +5,8 @@ ghost use Prim.Native.Nat.{_+_, _≤_};
 ghost use lib.ListN.{length, drop};
 ghost use lib.Seq.{sets};
 ghost use Rattle.lists.specs.Tests.{cond};
-ghost use Rattle.values.specs.Values.{null-value};
 ghost use Rattle.elements.specs.Elements.{element, length-needed};
-ghost use Rattle.fields.specs.Fields.{span-of, span-bytes, span-written, span-allowed, fits, read-fields, write-fields, values-allowed, null-record};
+ghost use Rattle.fields.specs.Fields.{span-of, span-bytes, span-written, span-allowed, fits, read-fields, write-fields, values-allowed};
 use definition::File;
 use definition::Format;
 use elements::ELEMENT;
@@ -91,17 +90,6 @@ fn allowed_span(s: Span, values: &[u8], at: usize) -> bool
     digits::allowed(kind, &values[at..at + length])
 }
 
-// Puts the null value of its format into a span.
-fn null_span(s: Span, content: &mut [u8])
-    requires { ⌜ s .start + s .length ≤ length (now content) ⌝ }
-    ensures { λ _. ⌜ now (content .exit) ≡ sets (now (content .entry)) (s .start) (null-value (s .format) (s .length)) ⌝ }
-{
-    let start = s.start;
-    let length = s.length;
-    let kind = s.format;
-    values::put_null(kind, &mut content[start..start + length]);
-}
-
 // Writes the named fields of the record at the front of the record buffer and answers how many bytes those are; writes nothing where the
 // buffer is too short for them, or the record is shorter than the file's.
 pub fn read_fields(f: File, format: &[u8], content: &[u8], buffer: &mut [u8]) -> usize
@@ -167,20 +155,4 @@ pub fn values_allowed(f: File, format: &[u8], values: &[u8]) -> bool
         i += ELEMENT;
     }
     true
-}
-
-// Fills the record with null values; changes nothing where it is shorter than the file's.
-pub fn put_nulls(f: File, content: &mut [u8])
-    ensures { λ _. ⌜ now (content .exit) ≡ null-record f (now (content .entry)) ⌝ }
-{
-    if content.len() < records::record_length(f) {
-        return;
-    }
-    let n = definition::field_count(f);
-    let mut k = 0;
-    while k < n {
-        let s = span_of(f, Found::At(k));
-        null_span(s, content);
-        k += 1;
-    }
 }

@@ -14,8 +14,10 @@ use Rattle.definition.specs.Shape.{DefinitionShape}
 use Rattle.definition.specs.declared.Definition.{Definition}
 use Rattle.records.specs.Records.{record-length, slot-offset}
 use Rattle.layout.specs.Layout.{store-size}
-use Rattle.fields.specs.Fields.{write-fields, nulls, null-record}
-use Rattle.fields.specs.Laws.{null-record-is, write-fields-length, null-record-length}
+use Rattle.fields.specs.Fields.{write-fields}
+use Rattle.nulls.specs.Nulls.{nulls, null-record}
+use Rattle.nulls.specs.Laws.{null-record-is, null-record-length}
+use Rattle.fields.specs.Laws.{write-fields-length}
 use Rattle.lists.specs.Parts.{length-piece}
 use Rattle.store.specs.Store.{record-of, file-part}
 use Rattle.store.specs.Laws.{fits-whole}

@@ -9,7 +9,8 @@ use Rattle.lists.specs.Tests.{eqb-self}
 use Rattle.definition.specs.Table.{fields-of}
 use Rattle.definition.specs.declared.Definition.{Definition}
 use Rattle.layout.specs.Layout.{place, file-found}
-use Rattle.fields.specs.Fields.{write-fields, nulls}
+use Rattle.fields.specs.Fields.{write-fields}
+use Rattle.nulls.specs.Nulls.{nulls}
 use Rattle.nucleus.specs.Responses.{number}
 use Rattle.nucleus.specs.declared.Call.{Call}
 use Rattle.history.specs.Journal.{Journal, Change, add, apply, changed, fed, replayed, record-told}

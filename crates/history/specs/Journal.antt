@@ -11,7 +11,8 @@ use Rattle.lists.specs.Folds.{any}
 use Rattle.lists.specs.Sift.{sift}
 use Rattle.definition.specs.Table.{fields-of}
 use Rattle.layout.specs.Layout.{place, file-found}
-use Rattle.fields.specs.Fields.{write-fields, nulls}
+use Rattle.fields.specs.Fields.{write-fields}
+use Rattle.nulls.specs.Nulls.{nulls}
 use Rattle.definition.specs.declared.Definition.{Definition}
 use Rattle.definition.specs.declared.File.{File}
 use Rattle.nucleus.specs.Commands.{command-of, one-of}

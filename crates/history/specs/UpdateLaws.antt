@@ -18,8 +18,10 @@ use Rattle.definition.specs.declared.File.{File}
 use Rattle.definition.specs.declared.Definition.{Definition}
 use Rattle.records.specs.Records.{record-length}
 use Rattle.validity.specs.Validity.{valid}
-use Rattle.fields.specs.Fields.{write-fields, nulls}
-use Rattle.fields.specs.Laws.{null-width, write-fields-length, unnamed-kept}
+use Rattle.fields.specs.Fields.{write-fields}
+use Rattle.nulls.specs.Nulls.{nulls}
+use Rattle.nulls.specs.Laws.{null-width}
+use Rattle.fields.specs.Laws.{write-fields-length, unnamed-kept}
 use Rattle.lists.specs.Numbers.{numbers, all-numbers}
 use Rattle.store.specs.Store.{field-value}
 use Rattle.transactions.specs.Slots.{Bytes, Slot}

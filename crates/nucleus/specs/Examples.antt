@@ -19,7 +19,8 @@ use Rattle.reading.specs.Grammar.{read-from, read-table}
 use Rattle.values.specs.Values.{stored, null-value, below-zero}
 use Rattle.digits.specs.Digits.{allowed}
 use Rattle.elements.specs.Elements.{field-named, format-valid, element, places, named-twice, length-needed, needed-within}
-use Rattle.fields.specs.Fields.{fits, read-fields, write-fields, values-allowed, null-record}
+use Rattle.fields.specs.Fields.{fits, read-fields, write-fields, values-allowed}
+use Rattle.nulls.specs.Nulls.{null-record}
 use Rattle.store.specs.Store.{slot-fits, has-record, get, put-record, empty, fresh, file-part, with-part}
 use Rattle.search.specs.Search.{lowest, elsewhere}
 use Rattle.entries.specs.Entries.{pack-of, unpack-of, entries}

@@ -13,7 +13,8 @@ use Rattle.definition.specs.Table.{field-at, field-count, is-unique}
 use Rattle.records.specs.Records.{field-offset}
 use Rattle.validity.specs.Validity.{valid}
 use Rattle.elements.specs.Elements.{format-valid, named-twice, length-needed, places}
-use Rattle.fields.specs.Fields.{write-fields, values-allowed, null-record}
+use Rattle.fields.specs.Fields.{write-fields, values-allowed}
+use Rattle.nulls.specs.Nulls.{null-record}
 use Rattle.lists.specs.Numbers.{numbers}
 use Rattle.store.specs.Store.{record-of, field-value}
 use Rattle.search.specs.Search.{elsewhere}

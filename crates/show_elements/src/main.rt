@@ -66,7 +66,7 @@ fn get(table: &[u8], format: &[u8], content: &[u8]) {
 
 fn nulls(table: &[u8], content: &mut [u8]) {
     let f = first_file(table);
-    fields::put_nulls(f, content);
+    nulls::put_nulls(f, content);
     show::text(b"nulls ");
     show::line(content);
 }

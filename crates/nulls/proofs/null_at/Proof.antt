@@ -1,12 +1,12 @@
--- `null_span` meets its contract.
+-- `null_at` meets its contract.
 -- Assumes nothing.
 use mathlib.Core.Path.{_≡_, ap, _∙_}
 use Rattle.values.specs.Values.{null-value}
 use Rattle.values.specs.Laws.{null-length}
 use Rattle.lists.specs.Parts.{length-part, patched-sets}
 use borrow.Author.Needs.{needs}
-use Rattle.fields.proofs.null_span.Statement.{statement}
-use Rattle.fields.proofs.null_span.Tie as tie
+use Rattle.nulls.proofs.null_at.Statement.{statement}
+use Rattle.nulls.proofs.null_at.Tie as tie
 
 add-put-null : tie.Need-add-put-null
 add-put-null c = search needs
@@ -31,14 +31,14 @@ returns c =
     let o = c .before .before in
     let s = o .before .before .before in
     let a = s .args in
-    let start = a .s .start in
-    let n = a .s .length in
-    let kind = a .s .format in
+    let start = a .start in
+    let n = a .size in
+    let kind = a .kind in
     let null : o .put-null .last .1 .0 ≡ null-value kind n = o .put-null .ensures ∙ ap (null-value kind) (length-part start n (a .content .now) (s .pre)) in
     rw null (patched-sets start n (a .content .now) (s .pre) (null-value kind n) (null-length kind n))
 
-pub null-span-spec : {M : Type 1} → statement M
-null-span-spec =
+pub null-at-spec : {M : Type 1} → statement M
+null-at-spec =
     tie.close
     (tie.spec
     add-put-null

@@ -14,10 +14,10 @@ use Rattle.records.specs.Records.{field-length, field-offset, record-length}
 use Rattle.records.specs.Laws.{field-offset-is, field-follows, field-within}
 use Rattle.values.specs.Values.{null-value}
 use Rattle.values.specs.Laws.{null-length}
-use Rattle.fields.specs.Fields.{nulls, null-record}
+use Rattle.nulls.specs.Nulls.{nulls, null-record}
 use borrow.Author.Needs.{needs}
-use Rattle.fields.proofs.put_nulls.Statement.{statement}
-use Rattle.fields.proofs.put_nulls.Tie as tie
+use Rattle.nulls.proofs.put_nulls.Statement.{statement}
+use Rattle.nulls.proofs.put_nulls.Tie as tie
 
 abbrev Inv-loop : tie.InvT-loop
 Inv-loop f content₀ n k₀ content k = (length content ≡ length content₀) × (sets content (field-offset f k) (nulls (drop k (fields-of f))) ≡ sets content₀ 0 (nulls (fields-of f)))
@@ -57,14 +57,22 @@ field-count-requires c κs = search needs
 loop-holds : tie.Need-loop-holds Inv-loop μ-loop
 loop-holds c = (refl, rw (field-offset-is _ 0))
 
-span-of-requires : tie.Need-span-of-requires Inv-loop μ-loop
-span-of-requires c κs = search needs
+field-at-requires : tie.Need-field-at-requires Inv-loop μ-loop
+field-at-requires c κs = search needs
 
-null-span-requires : tie.Need-null-span-requires Inv-loop μ-loop
-null-span-requires c κs = rw (c .before .span-of .ensures) (room (c .before .before))
+cast-null-at : tie.Need-cast-null-at Inv-loop μ-loop
+cast-null-at c = search needs
+
+field-offset-requires : tie.Need-field-offset-requires Inv-loop μ-loop
+field-offset-requires c κs = search needs
+
+null-at-requires : tie.Need-null-at-requires Inv-loop μ-loop
+null-at-requires c κs =
+    let q = c .before .before .before in
+    rw (c .field-offset .ensures, q .field-at .ensures) (room (q .before))
 
 add-k : tie.Need-add-k Inv-loop μ-loop
-add-k c = omega (arith, in-use (c .before .before .before .before .before))
+add-k c = omega (arith, in-use (c .before .before .before .before .before .before .before))
 
 loop-less : tie.Need-loop-less Inv-loop μ-loop
 loop-less c = omega arith
@@ -73,7 +81,8 @@ loop-again : tie.Need-loop-again Inv-loop μ-loop
 loop-again c =
     let p = c .before .before in
     let o = p .before .before in
-    let i = o .before in
+    let q = o .before .before in
+    let i = q .before in
     let l = i .before in
     let f = entry l .args .f in
     let k = l .loop .k in
@@ -81,9 +90,9 @@ loop-again c =
     let v = null-value (g .format) (field-length g) in
     let rest = nulls (drop (k + 1) (fields-of f)) in
     let next = field-next f (shape l) k (in-use i) in
-    let now : p .null-span .last .1 .0 ≡ sets (l .loop .content) (field-offset f k) v = rw (o .span-of .ensures) at (p .null-span .ensures) in
+    let now : p .null-at .last .1 .1 .0 ≡ sets (l .loop .content) (field-offset f k) v = rw (p .before .field-offset .ensures, q .field-at .ensures) at (p .null-at .ensures) in
     let turn : sets (l .loop .content) (field-offset f k) (nulls (drop k (fields-of f))) ≡ sets (sets (l .loop .content) (field-offset f k) v) (field-offset f k + field-length g) rest = rw (next, sets-append (l .loop .content) (field-offset f k) v rest, null-length (g .format) (field-length g)) refl in
-    (omega (arith, p .null-span .kept .1 .0, l .loop .inv .0), rw (now, field-follows f (shape l) k (in-use i)) (sym turn ∙ l .loop .inv .1))
+    (omega (arith, p .null-at .kept .1 .1 .0, l .loop .inv .0), rw (now, field-follows f (shape l) k (in-use i)) (sym turn ∙ l .loop .inv .1))
 
 same-length : tie.Need-same-length Inv-loop μ-loop
 same-length c = c .before .loop .inv .0
@@ -108,8 +117,10 @@ put-nulls-spec =
     returns
     field-count-requires
     loop-holds
-    span-of-requires
-    null-span-requires
+    field-at-requires
+    cast-null-at
+    field-offset-requires
+    null-at-requires
     add-k
     loop-less
     loop-again

@@ -1,0 +1,3 @@
+pub mod Nulls
+pub mod Laws
+pub mod Examples
