@@ -1,24 +1,24 @@
 // The first change of an entry: it is marked, and the record that it changes is kept as its image.
 ghost use mathlib.Core.Path.{_≡_};
-ghost use Prim.Native.Nat.{_+_, _*_};
+ghost use Prim.Native.Nat.{_+_, _*_, _<_};
 ghost use lib.Dec.{leb};
+ghost use lib.ListN.{length};
 ghost use Rattle.changes.specs.Changes.{change, keep-image, first-change-queue, first-change-images};
 use entries::Entry;
 
 // The entry at a place is changed from now on; `existed` says whether a record was there before.
 fn change(queue: &mut [u64], at: usize, existed: bool)
+    requires { ⌜ at < length (now queue) ⌝ }
     ensures { λ _. ⌜ now (queue .exit) ≡ change (now (queue .entry)) at existed ⌝ }
 {
-    if at < queue.len() {
-        let e = entries::unpack(queue[at]);
-        queue[at] = entries::pack(Entry {
-            user: e.user,
-            file: e.file,
-            isn: e.isn,
-            changed: true,
-            existed,
-        });
-    }
+    let e = entries::unpack(queue[at]);
+    queue[at] = entries::pack(Entry {
+        user: e.user,
+        file: e.file,
+        isn: e.isn,
+        changed: true,
+        existed,
+    });
 }
 
 // Whether the block at a place, of `width` bytes like those before it, ends within `length` bytes.

@@ -26,5 +26,6 @@ slot-length f = record-length f + 1
 abbrev pub slot-offset : File → ℕ → ℕ
 slot-offset f isn = (isn - 1) * slot-length f
 
+-- the bytes of all its slots
 abbrev pub file-size : File → ℕ
 file-size f = f .«max_isn» * slot-length f

@@ -11,7 +11,6 @@ use Rattle.entries.specs.declared.Entry.{Entry}
 use Rattle.removal.specs.declared.Removal.{Removal}
 use Rattle.removal.specs.declared.Removal.the-variants.{One, Unchanged, All}
 
--- ---- removal
 -- whether an entry goes
 abbrev pub goes : Removal → Entry → Bool
 goes (One file isn) e = is-of file isn e

@@ -1,6 +1,4 @@
 -- `change` meets its contract. Assumes nothing.
-use mathlib.Core.Path.{sym}
-use lib.Seq.{set-out}
 use Rattle.changes.specs.Changes.{change}
 use borrow.Author.Needs.{needs}
 use Rattle.changes.proofs.change.Statement.{statement}
@@ -31,10 +29,6 @@ returns : tie.Need-returns
 unfolding change
 returns c = rw (c .pack .ensures, c .before .unpack .ensures)
 
-returns-2 : tie.Need-returns-2
-unfolding change
-returns-2 c = sym (set-out _ _ _ (c .if1 .left))
-
 pub change-spec : {M : Type 1} → statement M
 change-spec =
     tie.close
@@ -46,5 +40,4 @@ change-spec =
     mul-queue
     slice-write-queue
     same-length
-    returns
-    returns-2)
+    returns)
