@@ -11,11 +11,11 @@ use Rattle.entries.specs.declared.Entry.{Entry}
 
 -- ---- the entry at a place; a place past the end changes nothing
 -- an entry after a change
-abbrev pub mark : Bool → Entry → Entry
-mark existed e = record { user = e .user; file = e .file; isn = e .isn; changed = true; existed = existed }
+abbrev pub as-changed : Bool → Entry → Entry
+as-changed existed e = record { user = e .user; file = e .file; isn = e .isn; changed = true; existed = existed }
 
 unfoldable pub change : List ℕ → ℕ → Bool → List ℕ
-change words at existed = set words at (pack-of (mark existed (unpack-of (getD words at 0))))
+change words at existed = set words at (pack-of (as-changed existed (unpack-of (getD words at 0))))
 
 -- ---- "Only the first change of an entry keeps an image": the record's bytes at the front of the image of the entry at a place
 unfoldable pub keep-image : List ℕ → ℕ → ℕ → List ℕ → List ℕ
@@ -25,7 +25,7 @@ keep-image images width at content = cond (leb (length content) width && leb ((a
 unfoldable pub settled : List ℕ → ℕ → Bool
 settled queue at = leb (length queue) at || unpack-of (getD queue at 0) .changed
 
--- the first change marks the entry; a later one does nothing
+-- the first change is noted in the entry; a later one does nothing
 unfoldable pub first-change-queue : List ℕ → ℕ → Bool → List ℕ
 first-change-queue queue at existed = cond (settled queue at) queue (change queue at existed)
 

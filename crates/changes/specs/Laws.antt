@@ -7,21 +7,21 @@ use mathlib.Core.List.{List}
 use lib.ListN.{length, getD, set, length-set}
 use Rattle.entries.specs.Entries.{pack-of, unpack-of, entries}
 use Rattle.entries.specs.Laws.{Shape, unpack-pack, unpack-shape, no-entry, entry-at, entries-set}
-use Rattle.changes.specs.Changes.{mark, change}
+use Rattle.changes.specs.Changes.{as-changed, change}
 use Rattle.entries.specs.declared.Entry.{Entry}
 
-mark-shape : (existed : Bool) (e : Entry) → Shape e → Shape (mark existed e)
-mark-shape existed e s = record { user = s .user; file = s .file; isn = s .isn }
+changed-shape : (existed : Bool) (e : Entry) → Shape e → Shape (as-changed existed e)
+changed-shape existed e s = record { user = s .user; file = s .file; isn = s .isn }
 
--- one entry marked, the others as they were
-pub entries-change : (words : List ℕ) (count at : ℕ) (existed : Bool) → at < count → entries (change words at existed) count ≡ set (entries words count) at (mark existed (getD (entries words count) at no-entry))
+-- one entry changed, the others as they were
+pub entries-change : (words : List ℕ) (count at : ℕ) (existed : Bool) → at < count → entries (change words at existed) count ≡ set (entries words count) at (as-changed existed (getD (entries words count) at no-entry))
 unfolding change
 entries-change words count at existed h =
-    entries-set words count at (pack-of (mark existed (unpack-of (getD words at 0)))) h
+    entries-set words count at (pack-of (as-changed existed (unpack-of (getD words at 0)))) h
     ∙ ap (set (entries words count) at)
-    (unpack-pack (mark existed (unpack-of (getD words at 0))) (mark-shape existed (unpack-of (getD words at 0)) (unpack-shape (getD words at 0)))
-    ∙ ap (mark existed) (sym (entry-at words count at h)))
+    (unpack-pack (as-changed existed (unpack-of (getD words at 0))) (changed-shape existed (unpack-of (getD words at 0)) (unpack-shape (getD words at 0)))
+    ∙ ap (as-changed existed) (sym (entry-at words count at h)))
 
 pub length-change : (words : List ℕ) (at : ℕ) (existed : Bool) → length (change words at existed) ≡ length words
 unfolding change
-length-change words at existed = length-set words at (pack-of (mark existed (unpack-of (getD words at 0))))
+length-change words at existed = length-set words at (pack-of (as-changed existed (unpack-of (getD words at 0))))

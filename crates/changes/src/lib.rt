@@ -1,4 +1,4 @@
-// The first change of an entry: it is marked, and the record that it changes is kept as its image.
+// The first change of an entry: it counts as changed from then on, and the record that it changes is kept as its image.
 ghost use mathlib.Core.Path.{_≡_};
 ghost use Prim.Native.Nat.{_+_, _*_, _<_};
 ghost use lib.Dec.{leb};

@@ -5,9 +5,10 @@ use native.Mathlib.Omega.{arith}
 use mathlib.Core.Path.{_≡_}
 use mathlib.Core.List.{[], _∷_}
 use lib.ListN.{length, getD, take, drop}
+use borrow.Author.Tests.{lt-ltb}
 use Rattle.lists.specs.Folds.{Each, each-at}
 use Rattle.lists.specs.Rest.{rest-more, rest-none}
-use Rattle.definition.specs.Table.{max-fields, max-files, no-field, beyond, fields-of, field-count, files-of, file-count}
+use Rattle.definition.specs.Table.{max-fields, max-files, no-field, beyond, fields-of, field-count, files-of, file-count, file-at, file-or-none}
 use Rattle.definition.specs.declared.Field.{Field}
 use Rattle.definition.specs.declared.File.{File}
 use Rattle.definition.specs.declared.Definition.{Definition}
@@ -50,3 +51,7 @@ no-file-left d i h = rest-none (file-count d) (d .files) i h
 
 pub file-shape-at : (d : Definition) → DefinitionShape d → (i : ℕ) → i < max-files → FileShape (getD (d .files) i beyond)
 file-shape-at d s i h = each-at FileShape (d .files) beyond (s .each-file) i (omega (arith, s .places))
+
+-- a file in use is the one that is handed out
+pub file-or-none-at : (d : Definition) (i : ℕ) → i < file-count d → file-or-none d i ≡ file-at d i
+file-or-none-at d i h = rw (lt-ltb i max-files (omega arith))

@@ -2,8 +2,9 @@
 use Prim.Native.Nat.{ℕ, min}
 use mathlib.Core.Bool.{Bool, true, false, _&&_}
 use mathlib.Core.List.{List, []}
-use lib.Dec.{eqb}
+use lib.Dec.{eqb, ltb}
 use lib.ListN.{getD, take, replicate}
+use Rattle.lists.specs.Tests.{cond}
 use Rattle.definition.specs.declared.Format.{Format}
 use Rattle.definition.specs.declared.Format.the-variants.{Alphanumeric, Binary, Unpacked, Packed}
 use Rattle.definition.specs.declared.FieldOption.{FieldOption}
@@ -58,6 +59,10 @@ field-at f k = getD (f .fields) k no-field
 
 abbrev pub file-at : Definition → ℕ → File
 file-at d i = getD (d .files) i beyond
+
+-- a file that every caller can be handed: past the sixteen places an empty one, where `file-at` reads what no value is
+abbrev pub file-or-none : Definition → ℕ → File
+file-or-none d i = cond (ltb i max-files) (file-at d i) no-file
 
 -- ---- what is in use: the first `count` places, however large a count a kept value has
 abbrev pub field-count : File → ℕ

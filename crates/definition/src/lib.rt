@@ -2,7 +2,7 @@
 // A definition is a value of fixed size. Of each array only the first `count` places are in use; what the others hold means nothing.
 
 ghost use mathlib.Core.Path.{_≡_};
-ghost use Rattle.definition.specs.Table.{no-field, no-file, no-definition, field-at, field-count, file-count, same-name};
+ghost use Rattle.definition.specs.Table.{no-field, no-file, no-definition, field-at, file-or-none, field-count, file-count, same-name};
 
 // Places for files in a definition, and for fields in a file.
 pub const MAX_FILES: usize = 16;
@@ -106,6 +106,16 @@ pub fn field_at(f: File, k: usize) -> Field
         return no_field();
     }
     f.fields[k]
+}
+
+// The place i of a definition, used or not; an empty one where there is no such place.
+pub fn file_at(d: Definition, i: usize) -> File
+    ensures { λ r. ⌜ r ≡ file-or-none d i ⌝ }
+{
+    if MAX_FILES <= i {
+        return no_file();
+    }
+    d.files[i]
 }
 
 // The fields in use. A count past the places counts as all of them.

@@ -1,2 +1,3 @@
 pub mod FileValidity
+pub mod Keys
 pub mod Laws

@@ -1,11 +1,13 @@
 // Whether one file of a kept definition breaks a rule of document 01: any value, also one that nobody read from bytes.
 ghost use mathlib.Core.Path.{_≡_};
-ghost use Prim.Native.Nat.{_+_};
-ghost use lib.ListN.{drop, getD};
+ghost use mathlib.Core.Bool.{_&&_};
+ghost use lib.Dec.{eqb, leb};
 ghost use Rattle.lists.specs.Tests.{within};
 ghost use Rattle.lists.specs.Folds.{any, sound};
-ghost use Rattle.definition.specs.Table.{max-length, fields-of, named-alike, no-field};
+ghost use Rattle.definition.specs.Table.{max-length, max-record-length, fields-of, named-alike};
+ghost use Rattle.records.specs.Records.{record-length};
 ghost use Rattle.file_validity.specs.FileValidity.{name-valid, field-valid, file-valid};
+ghost use Rattle.file_validity.specs.Keys.{name-number};
 use definition::Field;
 use definition::File;
 use definition::Format;
@@ -61,42 +63,50 @@ fn field_valid(f: Field) -> bool
     within(1, max_length(format) as usize, f.length as usize)
 }
 
-// Whether a later field of the file has the name of the i-th.
-fn named_later(f: File, i: usize) -> bool
-    ensures { λ r. ⌜ r ≡ any (named-alike (getD (f .fields) i no-field)) (drop (i + 1) (fields-of f)) ⌝ }
+// A name as one number.
+fn name_number(n: Name) -> u16
+    ensures { λ r. ⌜ r ≡ name-number n ⌝ }
 {
-    let n = definition::field_count(f);
-    if n <= i {
-        return false;
-    }
-    let g = f.fields[i];
-    let mut j = i + 1;
-    while j < n {
-        let h = f.fields[j];
-        if definition::same_name(g.name, h.name) {
+    n.first as u16 * 256 + n.second as u16
+}
+
+// Whether a number is one of those.
+pub fn among(numbers: &[u16], number: u16) -> bool
+    ensures { λ r. ⌜ r ≡ any (eqb number) (now (numbers .entry)) ⌝ }
+{
+    let mut i = 0;
+    while i < numbers.len() {
+        if number == numbers[i] {
             return true;
         }
-        j += 1;
+        i += 1;
     }
     false
 }
 
+// Whether the fields are valid, no name stands twice, and they have no more bytes together than a record may. Their names are noted as they are
+// passed, so that no call in the loop takes the file.
 fn fields_valid(f: File) -> bool
-    ensures { λ r. ⌜ r ≡ sound field-valid named-alike (fields-of f) ⌝ }
+    ensures { λ r. ⌜ r ≡ (sound field-valid named-alike (fields-of f) && leb (record-length f) max-record-length) ⌝ }
 {
     let n = definition::field_count(f);
+    let mut names = [0u16; MAX_FIELDS];
+    let mut length: usize = 0;
     let mut i = 0;
     while i < n {
         let g = f.fields[i];
         if !field_valid(g) {
             return false;
         }
-        if named_later(f, i) {
+        let name = name_number(g.name);
+        if among(&names[..i], name) {
             return false;
         }
+        names[i] = name;
+        length += g.length as usize;
         i += 1;
     }
-    true
+    length <= MAX_RECORD_LENGTH
 }
 
 pub fn file_valid(f: File) -> bool
@@ -111,8 +121,5 @@ pub fn file_valid(f: File) -> bool
     if !within(1, MAX_FIELDS, f.count as usize) {
         return false;
     }
-    if !fields_valid(f) {
-        return false;
-    }
-    records::record_length(f) <= MAX_RECORD_LENGTH
+    fields_valid(f)
 }

@@ -23,7 +23,7 @@ use Rattle.removal.specs.declared.Removal.{Removal}
 use Rattle.removal.specs.declared.Removal.the-variants.{One, Unchanged, All}
 use Rattle.changes.specs.Changes.{first-change-queue, first-change-images}
 use Rattle.hold.specs.Hold.{restore}
-use Rattle.transactions.specs.Machine.{Entry as MachineEntry, Ground, Machine, new-entry, at-key, with-hold, mark, hold, release, release-all, change, end, back-out, act}
+use Rattle.transactions.specs.Machine.{Entry as MachineEntry, Ground, Machine, new-entry, at-key, with-hold, image-kept, hold, release, release-all, change, end, back-out, act}
 use Rattle.lists.specs.Every.{any-behind}
 use Rattle.ground.specs.Keys.{isn-bound, key}
 use Rattle.ground.specs.Store.{get, put}
@@ -89,7 +89,7 @@ module _ (d : Definition) (s : DefinitionShape d) (U : Updates) (lent : List ℕ
   unfolding act
   act-change u file isn at e small found existed content now c = λ j. record {
     store = put d store (key file isn) (U .apply (key file isn) c (get d store (key file isn)));
-    queue = (ap (map (mark (key file isn) (get d store (key file isn)))) (queue-held d words images count u file isn at e small found)
+    queue = (ap (map (image-kept (key file isn) (get d store (key file isn)))) (queue-held d words images count u file isn at e small found)
         ∙ sym (queue-first-change d s capacity store words images count m file isn at e small found existed content now)) j;
   }
 
@@ -106,7 +106,7 @@ pub change-holds : (G : Ground) (u k : ℕ) (c : G .Update) (m : Machine G) → 
 unfolding act
 change-holds G u k c m = λ j. record {
   store = G .put (m .store) k (G .apply k c (G .get (m .store) k));
-  queue = map (mark k (G .get (m .store) k)) (hold-twice u k (m .queue) j);
+  queue = map (image-kept k (G .get (m .store) k)) (hold-twice u k (m .queue) j);
 }
 
 -- and the new entry is found at the end (`queue`, Laws)

@@ -1,4 +1,4 @@
--- What the first change of an entry, and a later one, make of the abstract queue: the entry of the key is marked, with the slot that stands there
+-- What the first change of an entry, and a later one, make of the abstract queue: the entry of the key is changed, with the slot that stands there
 -- now as its image.
 -- Assumes nothing.
 use Prim.Native.Nat.{ℕ, zero, suc, _+_, _*_, _≤_, _<_}
@@ -19,7 +19,7 @@ use Rattle.definition.specs.Shape.{DefinitionShape}
 use Rattle.definition.specs.declared.Definition.{Definition}
 use Rattle.records.specs.Records.{record-length}
 use Rattle.layout.specs.Layout.{image-length}
-use Rattle.changes.specs.Changes.{mark as mark-entry, change, keep-image, settled, first-change-queue, first-change-images}
+use Rattle.changes.specs.Changes.{as-changed, change, keep-image, settled, first-change-queue, first-change-images}
 use Rattle.queue.specs.Queue.{holder}
 use Rattle.entries.specs.Entries.{entries}
 use Rattle.lists.specs.Maps.{map-set}
@@ -31,13 +31,13 @@ use Rattle.queue.specs.declared.Lookup.the-variants.{Held}
 use Rattle.images.specs.Images.{hold-of, with-images}
 use Rattle.images.specs.Laws.{with-images-set, with-images-image}
 use Rattle.transactions.specs.Slots.{Slot}
-use Rattle.transactions.specs.Machine.{Entry as MachineEntry, marked, mark}
+use Rattle.transactions.specs.Machine.{Entry as MachineEntry, imaged-entry, image-kept}
 use Rattle.ground.specs.Keys.{isn-bound, key, file-of, file-of-key, known, Known, known-found, known-file}
 use Rattle.ground.specs.Store.{get}
 use Rattle.ground.specs.StoreLaws.{get-fit, fit-form}
 use Rattle.ground.specs.Queue.{key-of, before, held, queue-of, entry-known, Made}
 use Rattle.ground.specs.Reading.{single-at, found-inside, found-word, found-key, found-at, found-long, found-here}
-use Rattle.transactions.specs.Single.{mark-set, marked-changed}
+use Rattle.transactions.specs.Single.{image-kept-set, imaged-changed}
 
 -- ---- an image is as wide as the widest file (`lists`, Folds, and `layout`, Laws)
 maximum-at : {A : Type 0} (f : A → ℕ) (l : List A) (z : A) (i : ℕ) → i < length l → f (getD l i z) ≤ maximum f l
@@ -71,10 +71,10 @@ module _ (images content : List ℕ) (start width : ℕ) (fits : length content 
 
 -- ---- one entry
 module _ (d : Definition) where
-  -- the entry marked, with the slot in its image, is the machine's entry marked
-  held-marked : (e : Entry) (existed : Bool) (content old new : List ℕ) → e .changed ≡ false → (existed ≡ true → take (record-length (file-of d (e .file))) new ≡ content)
-      → held d (hold-of (mark-entry existed e) new) ≡ marked (cond existed (some content) none) (held d (hold-of e old))
-  held-marked e existed content old new h w = λ j. record {
+  -- the entry changed, with the slot in its image, is the machine's entry with that image
+  held-imaged : (e : Entry) (existed : Bool) (content old new : List ℕ) → e .changed ≡ false → (existed ≡ true → take (record-length (file-of d (e .file))) new ≡ content)
+      → held d (hold-of (as-changed existed e) new) ≡ imaged-entry (cond existed (some content) none) (held d (hold-of e old))
+  held-imaged e existed content old new h w = λ j. record {
     user = e .user;
     key = key-of e;
     changed = true;
@@ -138,36 +138,36 @@ module _ (d : Definition) (s : DefinitionShape d) (capacity : ℕ) (store words 
   blocks : count * width ≤ length images
   blocks = omega (arith, mul-le-mul-right width (m .most), m .image-room)
 
-  -- the machine marks the entry at its place
-  machine-marks : map (mark k (get d store k)) q ≡ set q at (marked (get d store k) (held d (hold-of e (take width (drop (at * width) images)))))
-  machine-marks =
-      mark-set k z (get d store k) q at (found-long d words images count (m .single) file isn at e found) (found-here d words images count (m .single) file isn at e found)
+  -- the machine changes the entry at its place
+  machine-images-kept : map (image-kept k (get d store k)) q ≡ set q at (imaged-entry (get d store k) (held d (hold-of e (take width (drop (at * width) images)))))
+  machine-images-kept =
+      image-kept-set k z (get d store k) q at (found-long d words images count (m .single) file isn at e found) (found-here d words images count (m .single) file isn at e found)
       (single-at d words images count (m .single) k)
-      ∙ ap (λ x. set q at (marked (get d store k) x)) (found-at d words images count (m .single) file isn at e found)
+      ∙ ap (λ x. set q at (imaged-entry (get d store k) x)) (found-at d words images count (m .single) file isn at e found)
 
   -- a later change
-  later : e .changed ≡ true → queue-of d (first-change-queue words at existed) (first-change-images words images width at existed content) count ≡ map (mark k (get d store k)) q
+  later : e .changed ≡ true → queue-of d (first-change-queue words at existed) (first-change-images words images width at existed content) count ≡ map (image-kept k (get d store k)) q
   unfolding first-change-queue first-change-images
   later c =
-      let stays : marked (get d store k) (held d (hold-of e (take width (drop (at * width) images)))) ≡ getD q at z =
-      marked-changed (get d store k) (held d (hold-of e (take width (drop (at * width) images)))) c ∙ sym (found-at d words images count (m .single) file isn at e found) in
-      rw (settled-is, c, machine-marks, stays) (sym (set-getD q at z))
+      let stays : imaged-entry (get d store k) (held d (hold-of e (take width (drop (at * width) images)))) ≡ getD q at z =
+      imaged-changed (get d store k) (held d (hold-of e (take width (drop (at * width) images)))) c ∙ sym (found-at d words images count (m .single) file isn at e found) in
+      rw (settled-is, c, machine-images-kept, stays) (sym (set-getD q at z))
 
-  -- the first one: the entry marked, and a block of which the front is the record
+  -- the first one: the entry changed, and a block of which the front is the record
   record First (new : List ℕ) (images′ : List ℕ) : Type 0 where
-    reads : queue-of d (change words at existed) images′ count ≡ set q at (held d (hold-of (mark-entry existed e) new))
+    reads : queue-of d (change words at existed) images′ count ≡ set q at (held d (hold-of (as-changed existed e) new))
     front : existed ≡ true → take (record-length (file-of d (e .file))) new ≡ content
 
-  first-ends : (new images′ : List ℕ) → e .changed ≡ false → First new images′ → queue-of d (change words at existed) images′ count ≡ map (mark k (get d store k)) q
+  first-ends : (new images′ : List ℕ) → e .changed ≡ false → First new images′ → queue-of d (change words at existed) images′ count ≡ map (image-kept k (get d store k)) q
   first-ends new images′ c r =
-      r .reads ∙ ap (set q at) (held-marked d e existed content (take width (drop (at * width) images)) new c (r .front) ∙ ap (λ x. marked x (held d (hold-of e (take width (drop (at * width) images))))) (sym now))
-      ∙ sym machine-marks
+      r .reads ∙ ap (set q at) (held-imaged d e existed content (take width (drop (at * width) images)) new c (r .front) ∙ ap (λ x. imaged-entry x (held d (hold-of e (take width (drop (at * width) images))))) (sym now))
+      ∙ sym machine-images-kept
 
   abbrev e′ : Entry
-  e′ = mark-entry existed e
+  e′ = as-changed existed e
 
   entries-after : entries (change words at existed) count ≡ set es at e′
-  entries-after = entries-change words count at existed inside ∙ ap (λ x. set es at (mark-entry existed x)) (f .stands)
+  entries-after = entries-change words count at existed inside ∙ ap (λ x. set es at (as-changed existed x)) (f .stands)
 
   none-before : existed ≡ false → First (take width (drop (at * width) images)) images
   unfolding queue-of
@@ -211,7 +211,7 @@ module _ (d : Definition) (s : DefinitionShape d) (capacity : ℕ) (store words 
           front = λ y. take-at content _ (record-length (file-of d (e .file))) (content-width was ∙ sym (ap record-length file-home));
         }
 
-  pub queue-first-change : queue-of d (first-change-queue words at existed) (first-change-images words images width at existed content) count ≡ map (mark k (get d store k)) q
+  pub queue-first-change : queue-of d (first-change-queue words at existed) (first-change-images words images width at existed content) count ≡ map (image-kept k (get d store k)) q
   unfolding first-change-queue first-change-images
   queue-first-change = go (outcome (e .changed)) (outcome existed)
     where
@@ -219,7 +219,7 @@ module _ (d : Definition) (s : DefinitionShape d) (capacity : ℕ) (store words 
           ≡ queue-of d (change words at existed) (cond b (keep-image images width at content) images) count
       written h = ap (λ b. queue-of d (change words at existed) (cond b (keep-image images width at content) images) count) h
 
-      go : Outcome (e .changed) → Outcome existed → queue-of d (first-change-queue words at existed) (first-change-images words images width at existed content) count ≡ map (mark k (get d store k)) q
+      go : Outcome (e .changed) → Outcome existed → queue-of d (first-change-queue words at existed) (first-change-images words images width at existed content) count ≡ map (image-kept k (get d store k)) q
       go (holds c) b = later c
       go (fails c) (fails n) = rw (settled-is, c) (written n ∙ first-ends _ images c (none-before n))
       go (fails c) (holds y) = rw (settled-is, c) (written y ∙ ap (λ l. queue-of d (change words at existed) l count) (kept y) ∙ first-ends _ _ c (some-before y))

@@ -15,7 +15,7 @@ use Rattle.definition.specs.Shape.{DefinitionShape}
 use Rattle.definition.specs.declared.Definition.{Definition}
 use Rattle.layout.specs.Layout.{store-size, image-length}
 use Rattle.repeats.specs.Repeats.{alike, repeated}
-use Rattle.changes.specs.Changes.{mark, change, keep-image, settled, first-change-queue, first-change-images}
+use Rattle.changes.specs.Changes.{as-changed, change, keep-image, settled, first-change-queue, first-change-images}
 use Rattle.queue.specs.Queue.{holder, append}
 use Rattle.entries.specs.Entries.{entries}
 use Rattle.lists.specs.Distinct.{distinct-last}
@@ -44,16 +44,16 @@ file-isn e = (e .file, e .isn)
 abbrev same-pair : ℕ × ℕ → ℕ × ℕ → Bool
 same-pair a b = eqb (a .0) (b .0) && eqb (a .1) (b .1)
 
-marked-known : (d : Definition) (es : List Entry) (i : ℕ) (existed : Bool) → all (entry-known d) (set es i (mark existed (getD es i no-entry))) ≡ all (entry-known d) es
-marked-known d es i existed =
-    sym (all-over key-of (known d) (set es i (mark existed (getD es i no-entry))))
-    ∙ ap (all (known d)) (map-set-same key-of es i (mark existed (getD es i no-entry)) no-entry refl) ∙ all-over key-of (known d) es
+changed-known : (d : Definition) (es : List Entry) (i : ℕ) (existed : Bool) → all (entry-known d) (set es i (as-changed existed (getD es i no-entry))) ≡ all (entry-known d) es
+changed-known d es i existed =
+    sym (all-over key-of (known d) (set es i (as-changed existed (getD es i no-entry))))
+    ∙ ap (all (known d)) (map-set-same key-of es i (as-changed existed (getD es i no-entry)) no-entry refl) ∙ all-over key-of (known d) es
 
-marked-single : (es : List Entry) (i : ℕ) (existed : Bool) → repeated (set es i (mark existed (getD es i no-entry))) ≡ repeated es
+changed-single : (es : List Entry) (i : ℕ) (existed : Bool) → repeated (set es i (as-changed existed (getD es i no-entry))) ≡ repeated es
 unfolding repeated
-marked-single es i existed =
-    ap not (distinct-over file-isn same-pair (set es i (mark existed (getD es i no-entry)))
-    ∙ ap (distinct same-pair) (map-set-same file-isn es i (mark existed (getD es i no-entry)) no-entry refl) ∙ sym (distinct-over file-isn same-pair es))
+changed-single es i existed =
+    ap not (distinct-over file-isn same-pair (set es i (as-changed existed (getD es i no-entry)))
+    ∙ ap (distinct same-pair) (map-set-same file-isn es i (as-changed existed (getD es i no-entry)) no-entry refl) ∙ sym (distinct-over file-isn same-pair es))
 
 module _ (d : Definition) (capacity : ℕ) (store words images : List ℕ) (count : ℕ) (m : Made d capacity store words images count) where
   pub made-append : (e : Entry) → Shape e → known d (key-of e) ≡ true → holder (entries words count) (e .file) (e .isn) ≡ Free → count < capacity
@@ -89,8 +89,8 @@ module _ (d : Definition) (capacity : ℕ) (store words images : List ℕ) (coun
         queue-room = rw (length-change words at existed) (m .queue-room);
         image-room = rw (long _ existed) (m .image-room);
         most = m .most;
-        each-known = rw (entries-change words count at existed inside) (marked-known d (entries words count) at existed ∙ m .each-known);
-        single = rw (entries-change words count at existed inside) (marked-single (entries words count) at existed ∙ m .single);
+        each-known = rw (entries-change words count at existed inside) (changed-known d (entries words count) at existed ∙ m .each-known);
+        single = rw (entries-change words count at existed inside) (changed-single (entries words count) at existed ∙ m .single);
       }
 
   pub made-remove : (which : Removal) → Made d capacity store (remove-queue words images count (image-length d) which) (remove-images words images count (image-length d) which) (remove-count words images count (image-length d) which)

@@ -1,15 +1,11 @@
-// The back-out: what a user's changed entries keep is put back in the store, and all his entries go.
+// The back-out's part in the store: what a user's changed entries keep is put back. That his entries go is for `removal`.
 ghost use mathlib.Core.Path.{_≡_};
-ghost use Rattle.layout.specs.Layout.{image-length};
 ghost use Rattle.entries.specs.Entries.{unpack-of};
-ghost use Rattle.removal.specs.Removal.{remove-queue, remove-images, remove-count};
-ghost use Rattle.removal.specs.declared.Removal.the-variants.{All};
 ghost use Rattle.hold.specs.Hold.{put-back-in, put-back, put-back-of, restore};
 use definition::Definition;
 use definition::File;
 use entries::Entry;
 use records::Found;
-use removal::Removal;
 
 // One entry's record as it was before the entry's first change, in its file's part of the store.
 fn put_back_in(f: File, e: Entry, image: &[u8], part: &mut [u8])
@@ -53,7 +49,7 @@ fn put_back_of(d: Definition, user: u8, word: u64, image: &[u8], store: &mut [u8
 }
 
 // Puts back what a user's changed entries keep, oldest first; changes nothing where there are fewer images than entries.
-fn restore(
+pub fn restore(
     d: Definition,
     width: usize,
     user: u8,
@@ -74,23 +70,4 @@ fn restore(
         put_back_of(d, user, queue[i], &images[start..start + width], store);
         i += 1;
     }
-}
-
-// Backs a user out: what his changed entries keep is put back, and all his entries go. Answers how many entries are left.
-pub fn back_out(
-    d: Definition,
-    store: &mut [u8],
-    queue: &mut [u64],
-    images: &mut [u8],
-    count: usize,
-    user: u8,
-) -> usize
-    ensures { λ r. ⌜ r ≡ remove-count (now (queue .entry)) (now (images .entry)) count (image-length d) (All user) ⌝ }
-    ensures { λ _. ⌜ now (store .exit) ≡ restore d (image-length d) user (now (queue .entry)) (now (images .entry)) count (now (store .entry)) ⌝ }
-    ensures { λ _. ⌜ now (queue .exit) ≡ remove-queue (now (queue .entry)) (now (images .entry)) count (image-length d) (All user) ⌝ }
-    ensures { λ _. ⌜ now (images .exit) ≡ remove-images (now (queue .entry)) (now (images .entry)) count (image-length d) (All user) ⌝ }
-{
-    let width = layout::image_length(d);
-    restore(d, width, user, queue, images, count, store);
-    removal::remove(queue, images, count, width, Removal::All { user })
 }

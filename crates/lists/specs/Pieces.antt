@@ -6,7 +6,7 @@ use mathlib.Core.List.{List, [], _∷_, _++_, append-assoc}
 use Prim.Native.Nat.{ℕ, zero, suc, _+_, _-_, _≤_, _<_}
 use native.Mathlib.Numerals.{add-one}
 use native.Mathlib.Omega.{arith}
-use lib.ListN.{length, take, drop, getD, set, length-append, length-take, length-drop}
+use lib.ListN.{length, take, drop, getD, set, length-append, length-take, length-drop, take-append-drop}
 use lib.Seq.{drop-drop, drop-set-lt, drop-set-add, take-set-le, take-suc-set, take-take, take-at, drop-at, length-take-le, getD-take, getD-drop}
 use Rattle.lists.specs.Parts.{Apart}
 
@@ -21,6 +21,10 @@ module _ {A : Type 0} where
 
   pub length-patch : (a n : ℕ) (l v : List A) → a + n ≤ length l → length v ≡ n → length (patch a n l v) ≡ length l
   length-patch a n l v h e = simp (length-append, length-take, length-drop) (omega arith)
+
+  -- with the piece that it has
+  pub patch-own : (a n : ℕ) (l : List A) → patch a n l (piece a n l) ≡ l
+  patch-own a n l = ap (λ r. take a l ++ r) (take-append-drop n (drop a l)) ∙ take-append-drop a l
 
   -- an element that was stored, and others behind it
   pub patch-set : (a n : ℕ) (l : List A) (x : A) (v : List A) → a < length l → patch (a + 1) n (set l a x) v ≡ patch a (n + 1) l (x ∷ v)

@@ -125,7 +125,8 @@ fn release(queue: &mut [u64], images: &mut [u8]) {
 
 // BT of user 1: the image of ISN 1 is back, ISN 2 is empty and its bytes are kept.
 fn back_out(store: &mut [u8], queue: &mut [u64], images: &mut [u8]) {
-    let left = hold::back_out(house(), store, queue, images, 2, 1);
+    hold::restore(house(), 3, 1, queue, images, 2, store);
+    let left = removal::remove(queue, images, 2, 3, Removal::All { user: 1 });
     show::title(b"left", left as u64);
     show::line(store);
 }

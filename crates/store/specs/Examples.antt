@@ -13,7 +13,7 @@ use Rattle.definition.specs.declared.Format.the-variants.{Alphanumeric}
 use Rattle.definition.specs.declared.FieldOption.the-variants.{Plain, Unique}
 use Rattle.records.specs.Records.{field-offset, record-length}
 use Rattle.lists.specs.Tests.{eqbs}
-use Rattle.store.specs.Store.{slot-fits, has-record, get, put-record, empty, fresh}
+use Rattle.store.specs.Store.{slot-fits, has-record, shown, get, put-record, empty, fresh}
 
 -- document 01's example: RC unique, 1 byte; HH, 2 bytes; highest ISN 3
 unfoldable pub paper : File
@@ -51,6 +51,9 @@ rows =
     record { given = bytes (get paper (part ++ 1 ∷ 1 ∷ 1 ∷ 1 ∷ []) 4); expected = [] } ∷
     -- a part that is a byte too short has no third slot
     record { given = bytes (get paper (1 ∷ 50 ∷ 65 ∷ 66 ∷ 2 ∷ 51 ∷ 67 ∷ 68 ∷ 1 ∷ 52 ∷ 69 ∷ []) 3); expected = [] } ∷
+    -- what is shown of an ISN with a record, and of one without
+    record { given = shown paper part 3; expected = 52 ∷ 69 ∷ 70 ∷ [] } ∷
+    record { given = shown paper part 2; expected = [] } ∷
     -- writing: a record, one of another width, at an ISN that is none; emptying; set-up
     record { given = put-record paper part 2 (7 ∷ 8 ∷ 9 ∷ []); expected = 1 ∷ 50 ∷ 65 ∷ 66 ∷ 1 ∷ 7 ∷ 8 ∷ 9 ∷ 1 ∷ 52 ∷ 69 ∷ 70 ∷ [] } ∷
     record { given = put-record paper part 2 (7 ∷ 8 ∷ []); expected = part } ∷
@@ -64,5 +67,5 @@ right : Row → Bool
 right r = eqbs (r .given) (r .expected)
 
 rows-right : all right rows ≡ true
-unfolding paper part bytes rows right slot-fits has-record get put-record empty fresh field-offset record-length
+unfolding paper part bytes rows right slot-fits has-record shown get put-record empty fresh field-offset record-length
 rows-right = refl

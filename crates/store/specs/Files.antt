@@ -16,7 +16,7 @@ use Rattle.records.specs.Records.{file-size}
 use Rattle.layout.specs.Layout.{file-offset, store-size}
 use Rattle.layout.specs.Laws.{file-before, file-within}
 use Rattle.lists.specs.Parts.{length-piece, Apart}
-use Rattle.lists.specs.Pieces.{piece, patch, length-patch, patch-same, patch-other, patch-behind}
+use Rattle.lists.specs.Pieces.{piece, patch, length-patch, patch-own, patch-same, patch-other, patch-behind}
 use Rattle.store.specs.Store.{file-part, with-part}
 
 -- where a file's part lies
@@ -28,6 +28,11 @@ module _ (d : Definition) (i : ℕ) (store : List ℕ) where
   pub with-part-is : (part : List ℕ) → with-part d i store part ≡ patch (file-offset d i) (file-size (file-at d i)) store part
   unfolding with-part
   with-part-is part = refl
+
+  -- its own part put back
+  pub part-own : with-part d i store (file-part d i store) ≡ store
+  unfolding file-part with-part
+  part-own = patch-own (file-offset d i) (file-size (file-at d i)) store
 
 module _ (d : Definition) (s : DefinitionShape d) (store : List ℕ) (room : store-size d ≤ length store) where
   inside : (i : ℕ) → i < file-count d → file-offset d i + file-size (file-at d i) ≤ length store

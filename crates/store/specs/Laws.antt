@@ -20,7 +20,7 @@ use Rattle.records.specs.Laws.{slot-before}
 use Rattle.lists.specs.Numbers.{numbers, each-number}
 use Rattle.lists.specs.Pieces.{piece, patch, length-patch, patch-set, patch-same, patch-other, piece-first, piece-rest, set-other}
 use Rattle.lists.specs.Parts.{length-piece, Apart}
-use Rattle.store.specs.Store.{slot-count, slot-fits, has-record, record-of, get, put-record, empty, fresh, cleared, isns-from}
+use Rattle.store.specs.Store.{slot-count, slot-fits, has-record, record-of, shown, get, put-record, empty, fresh, cleared, isns-from}
 use Rattle.store.specs.Slots.{slot-inside}
 
 -- a 0 that is stored, and one that was there
@@ -56,10 +56,35 @@ module _ (f : File) (part : List ℕ) (isn : ℕ) where
   unfolding slot-fits
   fits-most h = omega (arith, within-most 1 (slot-count f (length part)) isn h)
 
-  -- ---- what `get` says
+  -- ---- a record that is there
   pub has-fits : has-record f part isn ≡ true → slot-fits f part isn ≡ true
   unfolding has-record slot-fits
   has-fits h = and-left (slot-fits f part isn) (eqb (getD part (slot-offset f isn) 0) 1) h
+
+  -- ends within the part, and has the file's width
+  pub record-inside : has-record f part isn ≡ true → slot-offset f isn + 1 + record-length f ≤ length part
+  record-inside h = omega (arith, slot-inside f part isn (has-fits h))
+
+  pub record-of-length : has-record f part isn ≡ true → length (record-of f part isn) ≡ record-length f
+  record-of-length h = length-piece (slot-offset f isn + 1) (record-length f) part (record-inside h)
+
+  -- ---- what is shown of an ISN
+  pub shown-is : shown f part isn ≡ cond (has-record f part isn) (record-of f part isn) []
+  unfolding shown
+  shown-is = refl
+
+  pub shown-record : has-record f part isn ≡ true → shown f part isn ≡ record-of f part isn
+  unfolding shown
+  shown-record h = rw h
+
+  pub shown-none : has-record f part isn ≡ false → shown f part isn ≡ []
+  unfolding shown
+  shown-none h = rw h
+
+  pub shown-length : has-record f part isn ≡ true → length (shown f part isn) ≡ record-length f
+  shown-length h = ap length (shown-record h) ∙ record-of-length h
+
+  -- ---- what `get` says
 
   pub get-some : has-record f part isn ≡ true → get f part isn ≡ some (record-of f part isn)
   unfolding get
@@ -93,9 +118,7 @@ module _ (f : File) (part : List ℕ) (isn : ℕ) where
 
   -- a record has the file's width
   pub get-length : (r : List ℕ) → get f part isn ≡ some r → length r ≡ record-length f
-  get-length r e =
-      let room = slot-inside f part isn (has-fits (some-has r e)) in
-      sym (ap length (some-record r e)) ∙ length-piece (slot-offset f isn + 1) (record-length f) part (omega arith)
+  get-length r e = sym (ap length (some-record r e)) ∙ record-of-length (some-has r e)
 
 -- ---- `get` reads no more than the slot
 module _ (f : File) (p q : List ℕ) (isn : ℕ) (long : length p ≡ length q) (alike : piece (slot-offset f isn) (slot-length f) p ≡ piece (slot-offset f isn) (slot-length f) q) where

@@ -8,7 +8,7 @@ ghost use lib.ListN.{length};
 ghost use Rattle.lists.specs.Tests.{within};
 ghost use Rattle.lists.specs.Numbers.{from-to};
 ghost use Rattle.lists.specs.Pieces.{patch};
-ghost use Rattle.store.specs.Store.{cleared, slot-count, has-record, put-record, empty, fresh};
+ghost use Rattle.store.specs.Store.{cleared, slot-count, has-record, shown, put-record, empty, fresh};
 use definition::File;
 
 // How many of the file's slots lie whole within so many bytes.
@@ -41,6 +41,18 @@ pub fn has_record(f: File, part: &[u8], isn: u16) -> bool
     }
     let first = records::slot_offset(f, isn);
     part[first] == 1
+}
+
+// The record of an ISN, as a part of what was lent; no bytes where there is none.
+pub fn record_part(f: File, part: &[u8], isn: u16) -> &[u8]
+    ensures { λ r. ⌜ now r ≡ shown f (now (part .entry)) isn ⌝ }
+{
+    if !has_record(f, part, isn) {
+        return &part[..0];
+    }
+    let start = records::slot_offset(f, isn) + 1;
+    let end = start + records::record_length(f);
+    &part[start..end]
 }
 
 // Fills the slot that begins at `at`: 1, and then the bytes.

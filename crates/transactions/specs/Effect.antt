@@ -11,8 +11,8 @@ use Rattle.lists.specs.Tests.{and-left, and-right}
 use Rattle.lists.specs.Folds.{any, all, all-append}
 use Rattle.lists.specs.Sift.{keep, sift-sift, sift-ext, sift-append, all-map}
 use Rattle.transactions.specs.Slots.{Slot}
-use Rattle.transactions.specs.Machine.{Entry, Change, hold, release, release-all, change, end, back-out, Ground, Laws, new-entry, of-user, at-key, held-by-other, with-hold, marked, mark, Machine, restore, act, Journal, uncommitted-of, strike, closed, log, replay}
-use Rattle.transactions.specs.View.{Single, at, hit, back, back-sift, back-hold, back-mark, back-twice, plus, less, held, at-mark, back-change, back-still, single-map, single-hold, stay}
+use Rattle.transactions.specs.Machine.{Entry, Change, hold, release, release-all, change, end, back-out, Ground, Laws, new-entry, of-user, at-key, held-by-other, with-hold, imaged-entry, image-kept, Machine, restore, act, Journal, uncommitted-of, strike, closed, log, replay}
+use Rattle.transactions.specs.View.{Single, at, hit, back, back-sift, back-hold, back-image-kept, back-twice, plus, less, held, at-image-kept, back-change, back-still, single-map, single-hold, stay}
 
 module _ (G : Ground) where
   open Ground G using (Store, get, put, fresh, fit, keys, file, fields, value, Update, apply, may, judges)
@@ -153,14 +153,14 @@ module _ (G : Ground) where
         go true = f
         go false = rw (all-append fitting q (new-entry u k ∷ []), f)
 
-    fits-mark : (k : ℕ) (x : Slot) → fit k x ≡ true → (e : Entry) → fitting e ≡ true → fitting (mark k x e) ≡ true
-    fits-mark k x i e f = go (at-key k e) refl
+    fits-image-kept : (k : ℕ) (x : Slot) → fit k x ≡ true → (e : Entry) → fitting e ≡ true → fitting (image-kept k x e) ≡ true
+    fits-image-kept k x i e f = go (at-key k e) refl
       where
         new : (b : Bool) → (not b || fit (e .key) (e .image)) ≡ true → e .key ≡ k → fit (e .key) (cond b (e .image) x) ≡ true
         new true f n = f
         new false f n = rw n i
 
-        go : (b : Bool) → at-key k e ≡ b → fitting (cond b (marked x e) e) ≡ true
+        go : (b : Bool) → at-key k e ≡ b → fitting (cond b (imaged-entry x e) e) ≡ true
         go true n = new (e .changed) f (eqb-true (e .key) k n)
         go false n = f
 
@@ -169,7 +169,7 @@ module _ (G : Ground) where
       pub view-other : (P : ℕ → Bool) (j : ℕ) → eqb k j ≡ false → view P j (act G (change u k c) m) ≡ view P j m
       unfolding act
       view-other P j n =
-          back-mark j P k (get (m .store) k) n (get (put (m .store) k (apply k c (get (m .store) k))) j) (with-hold u k (m .queue))
+          back-image-kept j P k (get (m .store) k) n (get (put (m .store) k (apply k c (get (m .store) k))) j) (with-hold u k (m .queue))
           ∙ back-hold j P (get (put (m .store) k (apply k c (get (m .store) k))) j) u k (m .queue)
           ∙ ap (λ x. back j P x (m .queue)) (L .get-other (m .store) k (apply k c (get (m .store) k)) j (L .may-fit c k (get (m .store) k) may?) n)
 
@@ -186,10 +186,10 @@ module _ (G : Ground) where
 
       pub single-change : (j : ℕ) → Single (at j (m .queue)) → held-by-other u k (m .queue) ≡ false → Single (at j (act G (change u k c) m .queue))
       unfolding act
-      single-change j h f = rw (at-mark j k (get (m .store) k) (with-hold u k (m .queue))) (single-map (mark k (get (m .store) k)) (single-hold j u k (m .queue) h f))
+      single-change j h f = rw (at-image-kept j k (get (m .store) k) (with-hold u k (m .queue))) (single-map (image-kept k (get (m .store) k)) (single-hold j u k (m .queue) h f))
 
       pub fits-change : all fitting (m .queue) ≡ true → all fitting (act G (change u k c) m .queue) ≡ true
       unfolding act
-      fits-change f = all-map fitting (mark k (get (m .store) k))
-          (fits-mark k (get (m .store) k) (L .get-fit (m .store) k (L .may-key c k (get (m .store) k) may?)))
+      fits-change f = all-map fitting (image-kept k (get (m .store) k))
+          (fits-image-kept k (get (m .store) k) (L .get-fit (m .store) k (L .may-key c k (get (m .store) k) may?)))
           (with-hold u k (m .queue)) (fits-hold u k (m .queue) f)

@@ -81,11 +81,11 @@ held-by-other u k q = any (λ (e : Entry). at-key k e && not (of-user u e)) q
 abbrev pub with-hold : ℕ → ℕ → List Entry → List Entry
 with-hold u k q = cond (any (at-key k) q) q (q ++ (new-entry u k ∷ []))
 
-abbrev pub marked : Slot → Entry → Entry
-marked x e = record { user = e .user; key = e .key; changed = true; image = cond (e .changed) (e .image) x }
+abbrev pub imaged-entry : Slot → Entry → Entry
+imaged-entry x e = record { user = e .user; key = e .key; changed = true; image = cond (e .changed) (e .image) x }
 
-abbrev pub mark : ℕ → Slot → Entry → Entry
-mark k x e = cond (at-key k e) (marked x e) e
+abbrev pub image-kept : ℕ → Slot → Entry → Entry
+image-kept k x e = cond (at-key k e) (imaged-entry x e) e
 
 abbrev pub without : ℕ → List Entry → List Entry
 without u q = sift (λ (e : Entry). not (of-user u e)) q
@@ -128,7 +128,7 @@ module _ (G : Ground) where
   act (release-all u) m = record { store = m .store; queue = sift (λ (e : Entry). e .changed || not (of-user u e)) (m .queue) }
   act (change u k c) m = record {
     store = put (m .store) k (apply k c (get (m .store) k));
-    queue = map (mark k (get (m .store) k)) (with-hold u k (m .queue));
+    queue = map (image-kept k (get (m .store) k)) (with-hold u k (m .queue));
   }
   act (end u) m = record { store = m .store; queue = without u (m .queue) }
   act (back-out u) m = record { store = restore (λ v. eqb v u) (m .queue) (m .store); queue = without u (m .queue) }

@@ -11,17 +11,17 @@ use Rattle.lists.specs.Tests.{not-both, and-left, and-right}
 use Rattle.lists.specs.Folds.{all}
 use Rattle.lists.specs.Sift.{keep, sift}
 use Rattle.transactions.specs.Slots.{Slot}
-use Rattle.transactions.specs.Machine.{Entry, of-user, at-key, marked, mark}
+use Rattle.transactions.specs.Machine.{Entry, of-user, at-key, imaged-entry, image-kept}
 use Rattle.transactions.specs.View.{Single, holder, at}
 
 single-tail : {e : Entry} {l : List Entry} → Single (e ∷ l) → l ≡ []
 single-tail (holder e) = refl
 
-mark-none : (k : ℕ) (x : Slot) (q : List Entry) → at k q ≡ [] → map (mark k x) q ≡ q
-mark-none k x [] h = refl
-mark-none k x (e ∷ q) h = go (at-key k e) h (mark-none k x q)
+image-kept-none : (k : ℕ) (x : Slot) (q : List Entry) → at k q ≡ [] → map (image-kept k x) q ≡ q
+image-kept-none k x [] h = refl
+image-kept-none k x (e ∷ q) h = go (at-key k e) h (image-kept-none k x q)
   where
-    go : (b : Bool) → keep b e (at k q) ≡ [] → (at k q ≡ [] → map (mark k x) q ≡ q) → cond b (marked x e) e ∷ map (mark k x) q ≡ e ∷ q
+    go : (b : Bool) → keep b e (at k q) ≡ [] → (at k q ≡ [] → map (image-kept k x) q ≡ q) → cond b (imaged-entry x e) e ∷ map (image-kept k x) q ≡ e ∷ q
     go true a f = cc
     go false a f = ap (λ l. e ∷ l) (f a)
 
@@ -48,20 +48,20 @@ module _ (k : ℕ) (z : Entry) where
       go true t f = absurd (not-none q i (le-of-suc-le-suc h) e (single-tail t))
       go false t f = f t
 
-  -- to mark it is to store at the index
-  pub mark-set : (x : Slot) (q : List Entry) (i : ℕ) → i < length q → at-key k (getD q i z) ≡ true → Single (at k q) → map (mark k x) q ≡ set q i (marked x (getD q i z))
-  mark-set x [] i h e s = absurd (not-suc-le-zero h)
-  mark-set x (w ∷ q) zero h e s = rw (e, mark-none k x q (single-tail (rw e at s)))
-  mark-set x (w ∷ q) (suc i) h e s = go (at-key k w) s (mark-set x q i (le-of-suc-le-suc h) e)
+  -- an image kept there is a store at the index
+  pub image-kept-set : (x : Slot) (q : List Entry) (i : ℕ) → i < length q → at-key k (getD q i z) ≡ true → Single (at k q) → map (image-kept k x) q ≡ set q i (imaged-entry x (getD q i z))
+  image-kept-set x [] i h e s = absurd (not-suc-le-zero h)
+  image-kept-set x (w ∷ q) zero h e s = rw (e, image-kept-none k x q (single-tail (rw e at s)))
+  image-kept-set x (w ∷ q) (suc i) h e s = go (at-key k w) s (image-kept-set x q i (le-of-suc-le-suc h) e)
     where
-      go : (b : Bool) → Single (keep b w (at k q)) → (Single (at k q) → map (mark k x) q ≡ set q i (marked x (getD q i z)))
-          → cond b (marked x w) w ∷ map (mark k x) q ≡ w ∷ set q i (marked x (getD q i z))
+      go : (b : Bool) → Single (keep b w (at k q)) → (Single (at k q) → map (image-kept k x) q ≡ set q i (imaged-entry x (getD q i z)))
+          → cond b (imaged-entry x w) w ∷ map (image-kept k x) q ≡ w ∷ set q i (imaged-entry x (getD q i z))
       go true t f = absurd (not-none q i (le-of-suc-le-suc h) e (single-tail t))
       go false t f = ap (λ l. w ∷ l) (f t)
 
--- a marked entry that was changed is as it was
-pub marked-changed : (x : Slot) (e : Entry) → e .changed ≡ true → marked x e ≡ e
-marked-changed x e h = λ j. record { user = e .user; key = e .key; changed = sym h j; image = ap (λ b. cond b (e .image) x) h j }
+-- an entry that was changed before is as it was
+pub imaged-changed : (x : Slot) (e : Entry) → e .changed ≡ true → imaged-entry x e ≡ e
+imaged-changed x e h = λ j. record { user = e .user; key = e .key; changed = sym h j; image = ap (λ b. cond b (e .image) x) h j }
 
 -- a test of the entries at a key
 pub all-at-key : (k : ℕ) (p : Entry → Bool) (q : List Entry) → all p (at k q) ≡ all (λ (e : Entry). not (at-key k e) || p e) q

@@ -11,7 +11,7 @@ use Rattle.lists.specs.Tests.{eqb-self, not-both, and-left, or-left}
 use Rattle.lists.specs.Folds.{any}
 use Rattle.lists.specs.Sift.{keep, sift, sift-comm, sift-map, sift-append, sift-none, any-sift, all-sift}
 use Rattle.transactions.specs.Slots.{Slot}
-use Rattle.transactions.specs.Machine.{Entry, new-entry, of-user, at-key, held-by-other, with-hold, marked, mark, without}
+use Rattle.transactions.specs.Machine.{Entry, new-entry, of-user, at-key, held-by-other, with-hold, imaged-entry, image-kept, without}
 
 -- ---- one key of the queue
 
@@ -85,14 +85,14 @@ back-hold k P x u j q = go (any (at-key j) q)
     go true = refl
     go false = back-append k P x q (new-entry u j ∷ []) ∙ ap (λ c. cond c none (back k P x q)) (and-false (eqb j k))
 
--- to mark another key's entry leaves this key
-pub back-mark : (k : ℕ) (P : ℕ → Bool) (j : ℕ) (y : Slot) → eqb j k ≡ false
-    → (x : Slot) (q : List Entry) → back k P x (map (mark j y) q) ≡ back k P x q
-back-mark k P j y h x [] = refl
-back-mark k P j y h x (e ∷ q) = ap (λ z. back k P z (map (mark j y) q)) (go (at-key j e) refl) ∙ back-mark k P j y h (cond (at-key k e && hit P e) (e .image) x) q
+-- an image kept at another key leaves this key
+pub back-image-kept : (k : ℕ) (P : ℕ → Bool) (j : ℕ) (y : Slot) → eqb j k ≡ false
+    → (x : Slot) (q : List Entry) → back k P x (map (image-kept j y) q) ≡ back k P x q
+back-image-kept k P j y h x [] = refl
+back-image-kept k P j y h x (e ∷ q) = ap (λ z. back k P z (map (image-kept j y) q)) (go (at-key j e) refl) ∙ back-image-kept k P j y h (cond (at-key k e && hit P e) (e .image) x) q
   where
     go : (b : Bool) → at-key j e ≡ b
-        → cond (at-key k (cond b (marked y e) e) && hit P (cond b (marked y e) e)) (cond b (marked y e) e .image) x ≡ cond (at-key k e && hit P e) (e .image) x
+        → cond (at-key k (cond b (imaged-entry y e) e) && hit P (cond b (imaged-entry y e) e)) (cond b (imaged-entry y e) e .image) x ≡ cond (at-key k e && hit P e) (e .image) x
     go true i = let n : eqb (e .key) k ≡ false = rw (eqb-true (e .key) j i) h in rw n
     go false i = refl
 
@@ -169,15 +169,15 @@ held u k q h f = go (any (at-key k) q) refl
       here = eqb-self k;
     }
 
-mark-key : (j k : ℕ) (x : Slot) (e : Entry) → at-key j (mark k x e) ≡ at-key j e
-mark-key j k x e = go (at-key k e)
+image-kept-key : (j k : ℕ) (x : Slot) (e : Entry) → at-key j (image-kept k x e) ≡ at-key j e
+image-kept-key j k x e = go (at-key k e)
   where
-    go : (b : Bool) → at-key j (cond b (marked x e) e) ≡ at-key j e
+    go : (b : Bool) → at-key j (cond b (imaged-entry x e) e) ≡ at-key j e
     go true = refl
     go false = refl
 
-pub at-mark : (j k : ℕ) (x : Slot) (q : List Entry) → at j (map (mark k x) q) ≡ map (mark k x) (at j q)
-at-mark j k x q = sift-map (at-key j) (mark k x) (mark-key j k x) q
+pub at-image-kept : (j k : ℕ) (x : Slot) (q : List Entry) → at j (map (image-kept k x) q) ≡ map (image-kept k x) (at j q)
+at-image-kept j k x q = sift-map (at-key j) (image-kept k x) (image-kept-key j k x) q
 
 -- at another key nothing is held anew
 pub at-hold : (j u k : ℕ) (q : List Entry) → eqb k j ≡ false → at j (with-hold u k q) ≡ at j q
@@ -191,12 +191,12 @@ module _ (P : ℕ → Bool) (u k : ℕ) (x : Slot) (q : List Entry) (g : Held u 
   held-view : back k P x q ≡ cond (g .who .changed && P u) (g .who .image) x
   held-view = sym (back-hold k P x u k q) ∙ back-at k P x (with-hold u k q) ∙ rw (g .alone, g .his)
 
-  marked-back : (y : Slot) → back k P y (map (mark k x) (with-hold u k q)) ≡ cond (P u) (cond (g .who .changed) (g .who .image) x) y
-  marked-back y = back-at k P y (map (mark k x) (with-hold u k q)) ∙ rw (at-mark k k x (with-hold u k q), g .alone, g .here, g .his)
+  imaged-back : (y : Slot) → back k P y (map (image-kept k x) (with-hold u k q)) ≡ cond (P u) (cond (g .who .changed) (g .who .image) x) y
+  imaged-back y = back-at k P y (map (image-kept k x) (with-hold u k q)) ∙ rw (at-image-kept k k x (with-hold u k q), g .alone, g .here, g .his)
 
   -- after the change: where `u` is backed out his old slot is there, else the new one; and before it, where he is not, nothing is put back
-  pub back-change : (y : Slot) → back k P y (map (mark k x) (with-hold u k q)) ≡ cond (P u) (back k P x q) y
-  back-change y = marked-back y ∙ rw held-view (go (P u) (g .who .changed))
+  pub back-change : (y : Slot) → back k P y (map (image-kept k x) (with-hold u k q)) ≡ cond (P u) (back k P x q) y
+  back-change y = imaged-back y ∙ rw held-view (go (P u) (g .who .changed))
     where
       go : (p c : Bool) → cond p (cond c (g .who .image) x) y ≡ cond p (cond (c && p) (g .who .image) x) y
       go true true = refl

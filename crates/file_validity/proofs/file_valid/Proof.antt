@@ -52,23 +52,10 @@ fields-valid-requires c κs = search needs
 returns-4 : tie.Need-returns-4
 unfolding file-valid
 returns-4 c =
-    let yes = sym (c .before .before .before .before .before .before .before .before .before .within .ensures) ∙ not-false _ (c .before .before .before .before .before .before .before .before .if1 .left) in
-    let yes2 = sym (c .before .before .before .before .before .before .within2 .ensures) ∙ not-false _ (c .before .before .before .before .before .if2 .left) in
-    let yes3 = sym (c .before .before .before .within3 .ensures) ∙ not-false _ (c .before .before .if3 .left) in
-    let no = sym (c .before .fields-valid .ensures) ∙ not-true _ (c .if4 .taken) in
-    rw (yes, yes2, yes3, no)
-
-record-length-requires : tie.Need-record-length-requires
-record-length-requires c κs = search needs
-
-returns-5 : tie.Need-returns-5
-unfolding file-valid
-returns-5 c =
-    let yes = sym (c .before .before .before .before .before .before .before .before .before .before .within .ensures) ∙ not-false _ (c .before .before .before .before .before .before .before .before .before .if1 .left) in
-    let yes2 = sym (c .before .before .before .before .before .before .before .within2 .ensures) ∙ not-false _ (c .before .before .before .before .before .before .if2 .left) in
-    let yes3 = sym (c .before .before .before .before .within3 .ensures) ∙ not-false _ (c .before .before .before .if3 .left) in
-    let yes4 = sym (c .before .before .fields-valid .ensures) ∙ not-false _ (c .before .if4 .left) in
-    rw (yes, yes2, yes3, yes4, c .record-length .ensures)
+    let yes = sym (c .before .before .before .before .before .before .before .before .within .ensures) ∙ not-false _ (c .before .before .before .before .before .before .before .if1 .left) in
+    let yes2 = sym (c .before .before .before .before .before .within2 .ensures) ∙ not-false _ (c .before .before .before .before .if2 .left) in
+    let yes3 = sym (c .before .before .within3 .ensures) ∙ not-false _ (c .before .if3 .left) in
+    rw (yes, yes2, yes3) (c .fields-valid .ensures)
 
 pub file-valid-spec : {M : Type 1} → statement M
 file-valid-spec =
@@ -84,6 +71,4 @@ file-valid-spec =
     within-requires-3
     returns-3
     fields-valid-requires
-    returns-4
-    record-length-requires
-    returns-5)
+    returns-4)

@@ -1,0 +1,2 @@
+pub mod Amendment
+pub mod Laws
