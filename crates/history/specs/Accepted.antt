@@ -7,7 +7,7 @@ use mathlib.Core.Option.{Option, none, some}
 use Rattle.lists.specs.Tests.{not-both}
 use Rattle.lists.specs.Folds.{Each}
 use Rattle.nucleus.specs.Nucleus.{Nucleus, Request}
-use Rattle.nucleus.specs.Rows.{Row, first-cause, rows-last, access-refused, file-unknown, isn-invalid, format-refused, field-twice, record-length-refused, value-refused, none-found, held-elsewhere, presence-refused, not-held, release-refused, file-full, limit-reached, queue-full, value-taken}
+use Rattle.nucleus.specs.Rows.{Row, first-cause, rows-last, file-unknown, isn-invalid, format-refused, field-twice, record-length-refused, value-refused, none-found, held-elsewhere, presence-refused, not-held, release-refused, file-full, limit-reached, queue-full, value-taken}
 use Rattle.nucleus.specs.declared.Response.{Response}
 
 -- whether a cause was found
@@ -28,7 +28,6 @@ no-row (r ∷ rs) h = let p = none-held r rs h in (p .0, no-row rs (p .1))
 
 -- the rows of a call in its last list, all of them failing
 pub record Accepted (r : Request) (n : Nucleus) : Type 0 where
-  pub access : access-refused r n ≡ false
   pub file : file-unknown r n ≡ false
   pub isn : isn-invalid r n ≡ false
   pub format : format-refused r n ≡ false
@@ -49,20 +48,19 @@ pub accepted : (r : Request) (n : Nucleus) → is-cause (first-cause (rows-last 
 accepted r n h =
     let e = no-row (rows-last r n) h in
     record {
-      access = e .0;
-      file = e .1 .0;
-      isn = e .1 .1 .0;
-      format = e .1 .1 .1 .0;
-      once = e .1 .1 .1 .1 .0;
-      length = e .1 .1 .1 .1 .1 .0;
-      values = e .1 .1 .1 .1 .1 .1 .0;
-      found = e .1 .1 .1 .1 .1 .1 .1 .0;
-      mine = e .1 .1 .1 .1 .1 .1 .1 .1 .0;
-      presence = e .1 .1 .1 .1 .1 .1 .1 .1 .1 .0;
-      held = e .1 .1 .1 .1 .1 .1 .1 .1 .1 .1 .0;
-      unchanged = e .1 .1 .1 .1 .1 .1 .1 .1 .1 .1 .1 .0;
-      free = e .1 .1 .1 .1 .1 .1 .1 .1 .1 .1 .1 .1 .0;
-      limit = e .1 .1 .1 .1 .1 .1 .1 .1 .1 .1 .1 .1 .1 .0;
-      room = e .1 .1 .1 .1 .1 .1 .1 .1 .1 .1 .1 .1 .1 .1 .0;
-      unique = e .1 .1 .1 .1 .1 .1 .1 .1 .1 .1 .1 .1 .1 .1 .1 .0;
+      file = e .0;
+      isn = e .1 .0;
+      format = e .1 .1 .0;
+      once = e .1 .1 .1 .0;
+      length = e .1 .1 .1 .1 .0;
+      values = e .1 .1 .1 .1 .1 .0;
+      found = e .1 .1 .1 .1 .1 .1 .0;
+      mine = e .1 .1 .1 .1 .1 .1 .1 .0;
+      presence = e .1 .1 .1 .1 .1 .1 .1 .1 .0;
+      held = e .1 .1 .1 .1 .1 .1 .1 .1 .1 .0;
+      unchanged = e .1 .1 .1 .1 .1 .1 .1 .1 .1 .1 .0;
+      free = e .1 .1 .1 .1 .1 .1 .1 .1 .1 .1 .1 .0;
+      limit = e .1 .1 .1 .1 .1 .1 .1 .1 .1 .1 .1 .1 .0;
+      room = e .1 .1 .1 .1 .1 .1 .1 .1 .1 .1 .1 .1 .1 .0;
+      unique = e .1 .1 .1 .1 .1 .1 .1 .1 .1 .1 .1 .1 .1 .1 .0;
     }

@@ -7,11 +7,11 @@ use mathlib.Core.Path.{_≡_, refl, _∙_}
 use mathlib.Core.Bool.{Bool, true, false, not, _&&_}
 use mathlib.Core.List.{List, [], _∷_, _++_}
 use mathlib.Core.Option.{none, some}
-use lib.Dec.{eqb, leb}
+use lib.Dec.{leb}
 use lib.ListN.{length, getD}
 use lib.Seq.{getD-take, length-take-le}
 use borrow.Author.Tests.{leb-true, not-false}
-use Rattle.lists.specs.Tests.{cond, within, within-least, within-most, Outcome, holds, fails, outcome, not-both, and-left, and-right}
+use Rattle.lists.specs.Tests.{cond, within-least, within-most, Outcome, holds, fails, outcome, not-both, and-left, and-right}
 use Rattle.lists.specs.Folds.{Each}
 use Rattle.definition.specs.Table.{beyond, file-at, file-count, files-of}
 use Rattle.definition.specs.Shape.{DefinitionShape, file-shape-at}
@@ -30,11 +30,11 @@ use Rattle.search.specs.declared.Occupied.the-variants.{At, Nowhere}
 use Rattle.ground.specs.Keys.{isn-bound, key, file-of, file-of-key, isn-of-key, known, known-here}
 use Rattle.ground.specs.Store.{get}
 use Rattle.ground.specs.StoreLaws.{get-key}
-use Rattle.nucleus.specs.Commands.{one-of, option-I}
+use Rattle.nucleus.specs.Commands.{one-of, on-file, at-given-isn}
 use Rattle.nucleus.specs.Nucleus.{Nucleus, Request}
-use Rattle.nucleus.specs.Target.{is-file, is-isn, isn-in, found, file, part, record-at, is-free, last-given, free-isn, target, target-isn}
-use Rattle.nucleus.specs.WellMade.{marks-made}
-use Rattle.nucleus.specs.Rows.{file-unknown, isn-invalid, none-found, file-full}
+use Rattle.nucleus.specs.Target.{is-file, is-isn, isn-in, file-place, file, part, record-at, is-free, last-given, free-isn, seeks, target, target-isn}
+use Rattle.nucleus.specs.WellMade.{assigned-made}
+use Rattle.nucleus.specs.Rows.{releases-all, file-unknown, isn-invalid, none-found, file-full}
 use Rattle.nucleus.specs.declared.Command.the-variants.{A1, E1, N1, N2}
 use Rattle.history.specs.Kept.{definition-of}
 use Rattle.history.specs.Accepted.{Accepted}
@@ -73,13 +73,13 @@ each-append P [] ys h i = i
 each-append P (x ∷ xs) ys h i = (h .0, each-append P xs ys (h .1) i)
 
 -- "N1's marks at most the highest ISN"
-mark-most : (marks : List ℕ) (fs : List File) (i : ℕ) → i < length fs → marks-made marks fs ≡ true → getD marks i 0 ≤ getD fs i beyond .«max_isn»
-mark-most marks [] i h t = absurd (not-suc-le-zero h)
-mark-most [] (f ∷ fs) i h t = omega arith
-mark-most (m ∷ marks) (f ∷ fs) zero h t = leb-true m (f .«max_isn») (and-left (leb m (f .«max_isn»)) (marks-made marks fs) t)
-mark-most (m ∷ marks) (f ∷ fs) (suc i) h t = mark-most marks fs i (le-of-suc-le-suc h) (and-right (leb m (f .«max_isn»)) (marks-made marks fs) t)
+assigned-most : (isns : List ℕ) (fs : List File) (i : ℕ) → i < length fs → assigned-made isns fs ≡ true → getD isns i 0 ≤ getD fs i beyond .«max_isn»
+assigned-most isns [] i h t = absurd (not-suc-le-zero h)
+assigned-most [] (f ∷ fs) i h t = omega arith
+assigned-most (m ∷ isns) (f ∷ fs) zero h t = leb-true m (f .«max_isn») (and-left (leb m (f .«max_isn»)) (assigned-made isns fs) t)
+assigned-most (m ∷ isns) (f ∷ fs) (suc i) h t = assigned-most isns fs i (le-of-suc-le-suc h) (and-right (leb m (f .«max_isn»)) (assigned-made isns fs) t)
 
-pub file-there : (x : Found) → is-file x ≡ true → (i : ℕ) × (x ≡ found-at.At i)
+file-there : (x : Found) → is-file x ≡ true → (i : ℕ) × (x ≡ found-at.At i)
 file-there (found-at.At i) h = (i, refl)
 file-there found-at.Nowhere h = not-both false h refl
 
@@ -93,22 +93,27 @@ pub record Aim (r : Request) (n : Nucleus) : Type 0 where
   pub known : known (definition-of n) (key (r .call .file) (target-isn r n)) ≡ true
 
 module _ (r : Request) (n : Nucleus) where
-  -- A1, E1, N2: the given ISN, or the one that option `I` finds
-  pub given-inside : one-of (N1 ∷ []) (r .command) ≡ false → (not (eqb (r .call .option) option-I) && not (within 1 (file r n .«max_isn») (r .call .isn))) ≡ false
+  -- row 17
+  file-known : one-of on-file (r .command) ≡ true → releases-all r n ≡ false → file-unknown r n ≡ false → is-file (file-place r n) ≡ true
+  unfolding file-unknown
+  file-known about one defined = not-false _ (rest-fails (one-of on-file (r .command) && not (releases-all r n)) _ (rw (about, one)) defined)
+
+  -- rows 113 and 3: the given ISN, or the one that option `I` finds
+  given-inside : one-of (N1 ∷ []) (r .command) ≡ false → one-of at-given-isn (r .command) ≡ true → releases-all r n ≡ false → isn-invalid r n ≡ false
       → none-found r n ≡ false → InFile (file r n) (target-isn r n)
-  unfolding target none-found
-  given-inside other valid some-found = go (outcome (eqb (r .call .option) option-I))
+  unfolding target isn-invalid none-found
+  given-inside other at-given one valid some-found = go (outcome (seeks r n))
     where
-      go : Outcome (eqb (r .call .option) option-I) → InFile (file r n) (target-isn r n)
+      go : Outcome (seeks r n) → InFile (file r n) (target-isn r n)
       go (holds i) =
           rw (other, i)
           (found-in (file r n) (lowest (file r n) (part r n) (r .call .isn)) (not-false _ (rw (other, i) at some-found))
           (λ m e. let l = lowest-found (file r n) (part r n) (r .call .isn) m e in record { least = l .least; most = l .most }))
       go (fails i) =
-          let t = not-false _ (rw i at valid) in
+          let t = not-false _ (rest-fails (one-of at-given-isn (r .command) && not (releases-all r n) && not (seeks r n)) _ (rw (at-given, one, i)) valid) in
           rw (other, i) (record { least = within-least 1 (file r n .«max_isn») (r .call .isn) t; most = within-most 1 (file r n .«max_isn») (r .call .isn) t })
 
-  -- N1: one of the numbers from 1 to the highest
+  -- row 75: N1's is one of the numbers from 1 to the highest
   free-inside : one-of (N1 ∷ []) (r .command) ≡ true → last-given r n ≤ file r n .«max_isn» → is-isn (target r n) ≡ true → InFile (file r n) (target-isn r n)
   unfolding target
   free-inside new most some-free =
@@ -122,7 +127,7 @@ module _ (r : Request) (n : Nucleus) where
       (each-number (InFile (file r n)) (last + 1 - 1) 1 (λ m a b. record { least = omega arith; most = omega arith })))))
 
   module _ (s : DefinitionShape (definition-of n)) where
-    pub aim-at : (i : ℕ) → place (definition-of n) (r .call .file) ≡ found-at.At i → InFile (file r n) (target-isn r n) → Aim r n
+    aim-at : (i : ℕ) → place (definition-of n) (r .call .file) ≡ found-at.At i → InFile (file r n) (target-isn r n) → Aim r n
     aim-at i e inside =
         let d = definition-of n in
         let isn = target-isn r n in
@@ -139,32 +144,33 @@ module _ (r : Request) (n : Nucleus) where
               (rw (isn-of-key (r .call .file) isn small) (range .most));
         }
 
-    -- rows 17, 113, 3, 75
-    pub aim : marks-made (n .state .«last_assigned») (files-of (definition-of n)) ≡ true → Accepted r n → Changes r → Aim r n
-    unfolding file-unknown isn-invalid file-full
-    aim marks a c = let x = file-there (found r n) (is-found c) in aim-at (x .0) (x .1) (inside (x .0) (x .1) c)
-      where
-        is-found : Changes r → is-file (found r n) ≡ true
-        is-found (replaces e) = not-false _ (rw e at (a .file))
-        is-found (erases e) = not-false _ (rw e at (a .file))
-        is-found (adds e) = not-false _ (rw e at (a .file))
-        is-found (adds-there e) = not-false _ (rw e at (a .file))
+    module _ (a : Accepted r n) where
+      -- a command about a given ISN, one of them
+      pub aim-given : one-of (N1 ∷ []) (r .command) ≡ false → one-of at-given-isn (r .command) ≡ true → one-of on-file (r .command) ≡ true → releases-all r n ≡ false → Aim r n
+      aim-given other at-given about one =
+          let x = file-there (file-place r n) (file-known about one (a .file)) in
+          aim-at (x .0) (x .1) (given-inside other at-given one (a .isn) (a .found))
 
-        mark-fits : (i : ℕ) → place (definition-of n) (r .call .file) ≡ found-at.At i → last-given r n ≤ file r n .«max_isn»
-        mark-fits i e =
-            let d = definition-of n in
-            let in-use = place-found d s (r .call .file) i e .0 in
-            let long = length-take-le (file-count d) (d .files) (omega (arith, s .places)) in
-            rw (e, ← (getD-take (file-count d) (d .files) i beyond in-use)) (mark-most (n .state .«last_assigned») (files-of d) i (omega (arith, long)) marks)
+      -- N1
+      aim-new : assigned-made (n .state .«last_assigned») (files-of (definition-of n)) ≡ true → r .command ≡ N1 → Aim r n
+      unfolding file-full
+      aim-new assigned e =
+          let new : one-of (N1 ∷ []) (r .command) ≡ true = rw e in
+          let x = file-there (file-place r n) (file-known (rw e) (rw e) (a .file)) in
+          aim-at (x .0) (x .1) (free-inside new (last-fits (x .0) (x .1)) (not-false _ (rest-fails _ _ new (a .free))))
+        where
+          last-fits : (i : ℕ) → place (definition-of n) (r .call .file) ≡ found-at.At i → last-given r n ≤ file r n .«max_isn»
+          last-fits i e =
+              let d = definition-of n in
+              let in-use = place-found d s (r .call .file) i e .0 in
+              let long = length-take-le (file-count d) (d .files) (omega (arith, s .places)) in
+              rw (e, ← (getD-take (file-count d) (d .files) i beyond in-use)) (assigned-most (n .state .«last_assigned») (files-of d) i (omega (arith, long)) assigned)
 
-        new-isn : r .command ≡ N1 → one-of (N1 ∷ []) (r .command) ≡ true
-        new-isn e = rw e
-
-        inside : (i : ℕ) → place (definition-of n) (r .call .file) ≡ found-at.At i → Changes r → InFile (file r n) (target-isn r n)
-        inside i f (replaces e) = given-inside (rw e) (rw e at (a .isn)) (a .found)
-        inside i f (erases e) = given-inside (rw e) (rw e at (a .isn)) (a .found)
-        inside i f (adds e) = free-inside (new-isn e) (mark-fits i f) (not-false _ (rest-fails _ _ (new-isn e) (a .free)))
-        inside i f (adds-there e) = given-inside (rw e) (rw e at (a .isn)) (a .found)
+      pub aim : assigned-made (n .state .«last_assigned») (files-of (definition-of n)) ≡ true → Changes r → Aim r n
+      aim assigned (replaces e) = aim-given (rw e) (rw e) (rw e) (rw e)
+      aim assigned (erases e) = aim-given (rw e) (rw e) (rw e) (rw e)
+      aim assigned (adds e) = aim-new assigned e
+      aim assigned (adds-there e) = aim-given (rw e) (rw e) (rw e) (rw e)
 
 -- ---- what stands at an ISN of the call's file
 module _ (r : Request) (n : Nucleus) (i isn : ℕ) (here : place (definition-of n) (r .call .file) ≡ found-at.At i) where

@@ -25,13 +25,13 @@ use Rattle.ground.specs.Store.{get}
 use Rattle.ground.specs.Queue.{queue-of, Made}
 use Rattle.ground.specs.Ground.{uniques}
 use Rattle.ground.specs.Taken.{taken-is}
-use Rattle.nucleus.specs.Commands.{one-of}
+use Rattle.nucleus.specs.Commands.{one-of, holding, bringing-values}
 use Rattle.nucleus.specs.Nucleus.{Nucleus, Request}
-use Rattle.nucleus.specs.Target.{file, target-isn}
-use Rattle.nucleus.specs.Rows.{new-record, judged as judged-row, is-taken, value-taken}
-use Rattle.nucleus.specs.declared.Command.the-variants.{Hi, L4, A1, E1, N1, N2}
-use Rattle.history.specs.Updates.{FileUpdate, suits, judged, updates}
-use Rattle.history.specs.Lent.{Lent}
+use Rattle.nucleus.specs.Target.{file, target-isn, new-record}
+use Rattle.nucleus.specs.Rows.{judged, is-taken, value-taken}
+use Rattle.nucleus.specs.declared.Command.the-variants.{A1}
+use Rattle.history.specs.Updates.{FileUpdate, suits, judged-by, updates}
+use Rattle.claim.specs.Lent.{Lent}
 use Rattle.history.specs.Kept.{definition-of, ground-of, seen}
 use Rattle.history.specs.HoldMoves.{other-seen}
 use Rattle.history.specs.Holding.{holdable-at}
@@ -44,7 +44,7 @@ abbrev pub file-update : (r : Request) → Changes r → FileUpdate
 file-update r c = record { file = r .call .file; update = update-of r c }
 
 -- ---- each of the four holds its record
-pub holds-record : (r : Request) → Changes r → one-of (Hi ∷ L4 ∷ A1 ∷ E1 ∷ N1 ∷ N2 ∷ []) (r .command) ≡ true
+pub holds-record : (r : Request) → Changes r → one-of holding (r .command) ≡ true
 holds-record r (replaces e) = rw e
 holds-record r (erases e) = rw e
 holds-record r (adds e) = rw e
@@ -117,7 +117,7 @@ module _ (r : Request) (n : Nucleus) (s : DefinitionShape (definition-of n)) (v 
   judges-is : (j : ℕ) → judged-here j ≡ judges j
   judges-is j = go c
     where
-      go : (b : Changes r) → judged-here j ≡ judged d (r .call .file) (update-of r b) j
+      go : (b : Changes r) → judged-here j ≡ judged-by d (r .call .file) (update-of r b) j
       go (replaces e) = let y : one-of (A1 ∷ []) (r .command) ≡ true = rw e in rw (y, file-is r n (t .at) isn (t .found))
       go (erases e) = let y : one-of (A1 ∷ []) (r .command) ≡ false = rw e in rw y
       go (adds e) = let y : one-of (A1 ∷ []) (r .command) ≡ false = rw e in rw y
@@ -126,18 +126,18 @@ module _ (r : Request) (n : Nucleus) (s : DefinitionShape (definition-of n)) (v 
   abbrev taken-at : ℕ → Bool
   taken-at j = is-taken r n j (field-value (file r n) j new)
 
-  field-test : (j : ℕ) → (is-unique (field-at (file r n) j .option) && (judges j && taken-at j)) ≡ (judged-row r n j && taken-at j)
+  field-test : (j : ℕ) → (is-unique (field-at (file r n) j .option) && (judges j && taken-at j)) ≡ (judged r n j && taken-at j)
   field-test j = rw (← (judges-is j)) (sym (and-assoc (is-unique (field-at (file r n) j .option)) (judged-here j) (taken-at j)))
 
   -- 198
-  values-free : one-of (A1 ∷ N1 ∷ N2 ∷ []) (r .command) ≡ true → any (λ j. judges j && taken-at j) (uniques (file r n)) ≡ false
+  values-free : one-of bringing-values (r .command) ≡ true → any (λ j. judges j && taken-at j) (uniques (file r n)) ≡ false
   unfolding value-taken uniques
   values-free brings =
       any-sift (λ j. is-unique (field-at (file r n) j .option)) (λ j. judges j && taken-at j) (numbers (field-count (file r n)) 0)
       ∙ any-agree _ _ field-test (numbers (field-count (file r n)) 0) ∙ rest-fails _ _ brings (a .unique)
 
   module _ (lent : Lent) where
-    new-free : one-of (A1 ∷ N1 ∷ N2 ∷ []) (r .command) ≡ true → machine.taken (ground-of lent n) u k change (some new) (seen lent n) ≡ false
+    new-free : one-of bringing-values (r .command) ≡ true → machine.taken (ground-of lent n) u k change (some new) (seen lent n) ≡ false
     new-free brings =
         taken-is d s v (n .store) (made .store-room) k home (updates d) (lent .store) change new (rw (t .found) at (new-width r n s (made .store-room) t)) u (n .queue) (n .images) (n .state .count) nobody-else
         ∙ rw (isn-is, number-is) (rw (t .found) at (values-free brings))

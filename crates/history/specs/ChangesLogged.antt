@@ -26,12 +26,12 @@ use Rattle.store.specs.Files.{file-part-length}
 use Rattle.ground.specs.Keys.{key}
 use Rattle.ground.specs.Store.{get}
 use Rattle.transactions.specs.Slots.{Slot}
-use Rattle.nucleus.specs.Commands.{one-of}
+use Rattle.nucleus.specs.Commands.{one-of, on-record}
 use Rattle.nucleus.specs.Nucleus.{Nucleus, Request}
-use Rattle.nucleus.specs.Target.{file, part, record-at, target-isn}
-use Rattle.nucleus.specs.Rows.{presence-refused, new-record}
-use Rattle.nucleus.specs.declared.Command.the-variants.{L1, L4, A1, E1, N2}
-use Rattle.history.specs.Journal.{Update, replace, erase, add, apply}
+use Rattle.nucleus.specs.Target.{file, part, record-at, target-isn, new-record}
+use Rattle.nucleus.specs.Rows.{presence-refused}
+use Rattle.nucleus.specs.declared.Command.the-variants.{A1, N2}
+use Rattle.claim.specs.Journal.{Update, replace, erase, add, apply}
 use Rattle.history.specs.Kept.{definition-of}
 use Rattle.history.specs.Accepted.{Accepted}
 use Rattle.history.specs.Changes.{Changes, replaces, erases, adds, adds-there, rest-fails, Aim, slot-is}
@@ -93,7 +93,7 @@ module _ (r : Request) (n : Nucleus) (s : DefinitionShape (definition-of n)) (ro
 
   module _ (a : Accepted r n) where
     -- 113: A1 and E1 find a record
-    pub old-there : one-of (L1 ∷ L4 ∷ A1 ∷ E1 ∷ []) (r .command) ≡ true → record-at r n isn ≡ true
+    pub old-there : one-of on-record (r .command) ≡ true → record-at r n isn ≡ true
     unfolding presence-refused
     old-there y = not-false _ (rest-fails _ _ y (or-left _ (one-of (N2 ∷ []) (r .command) && record-at r n isn) (a .presence)))
 

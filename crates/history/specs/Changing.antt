@@ -17,12 +17,12 @@ use Rattle.nucleus.specs.Nucleus.{Nucleus, Request, entries-of}
 use Rattle.nucleus.specs.Target.{target-isn}
 use Rattle.nucleus.specs.Effects.{held}
 use Rattle.nucleus.specs.declared.User.{User}
-use Rattle.history.specs.Journal.{Journal, begun, changed}
+use Rattle.claim.specs.Journal.{Journal, log-start, log-change}
 use Rattle.history.specs.Updates.{updates, logged}
-use Rattle.history.specs.Lent.{Lent}
-use Rattle.history.specs.Kept.{Kept, Sized, People, Told, definition-of, ground-of, seen, is-active, change-sound}
+use Rattle.claim.specs.Lent.{Lent}
+use Rattle.history.specs.Kept.{Kept, Sized, People, Told, definition-of, ground-of, seen, active-in, change-sound}
 use Rattle.history.specs.Accepted.{Accepted}
-use Rattle.history.specs.Logs.{log-change}
+use Rattle.history.specs.Logs.{logged-change}
 use Rattle.history.specs.Ends.{laws-of}
 use Rattle.history.specs.Passing.{Passed}
 use Rattle.history.specs.HoldMoves.{his-entry, held-definition, held-store, held-same, his-held, seen-held}
@@ -31,7 +31,7 @@ use Rattle.history.specs.Performing.{rested-held}
 use Rattle.history.specs.Changes.{Changes, Aim, aim}
 use Rattle.history.specs.ChangesLogged.{update-of, slot-of}
 use Rattle.history.specs.ChangesAllowed.{file-update, holds-record, machine-applied, change-allowed}
-use Rattle.history.specs.ChangesEffect.{Holding, Changed, users-same}
+use Rattle.history.specs.ChangesEffect.{HeldHere, Changed, users-same}
 
 module _ (lent : Lent) (n : Nucleus) (j : Journal) (r : Request) (p : Passed (r .capacity) lent n j) (s : Serving (r .call .user) n) (a : Accepted r n) (c : Changes r) where
   abbrev capacity : ℕ
@@ -56,7 +56,7 @@ module _ (lent : Lent) (n : Nucleus) (j : Journal) (r : Request) (p : Passed (r 
   made = k .sized .made
 
   t : Aim r n
-  t = aim r n (k .sized .shape) (k .marks-sound) a c
+  t = aim r n (k .sized .shape) a (k .assigned-sound) c
 
   -- ---- the hold
   pub holdable : Holdable capacity r isn n
@@ -65,11 +65,11 @@ module _ (lent : Lent) (n : Nucleus) (j : Journal) (r : Request) (p : Passed (r 
   small-user : u < 256
   small-user = omega (arith, s .most)
 
-  abbrev before : Kept capacity lent (held r isn n) (begun u j)
+  abbrev before : Kept capacity lent (held r isn n) (log-start u j)
   before = kept-held capacity lent n j k r isn s holdable
 
-  pub holding-here : Holding capacity lent r n isn
-  holding-here =
+  pub held-here : HeldHere capacity lent r n isn
+  held-here =
       let e = his-entry u _ (his-held n capacity made (k .sized .shape) r isn (t .small) (t .known) small-user (holdable .mine) (holdable .room)) in
       record {
         at = e .at;
@@ -82,8 +82,8 @@ module _ (lent : Lent) (n : Nucleus) (j : Journal) (r : Request) (p : Passed (r 
       }
 
   -- ---- the argument of requirement 3
-  abbrev logged-now : Journal
-  logged-now = changed (r .call) isn (update-of r c) (begun u j)
+  abbrev told-now : Journal
+  told-now = log-change (r .call) isn (update-of r c) (log-start u j)
 
   -- ---- the nucleus that it leaves
   module _ (m : Nucleus) (ch : Changed capacity lent r n (slot-of r n c) m) where
@@ -98,10 +98,10 @@ module _ (lent : Lent) (n : Nucleus) (j : Journal) (r : Request) (p : Passed (r 
       queue = sym (ch .queue) i;
     }
 
-    invariant-here : Invariant (ground-of lent n) (record { store = m .store; queue = queue-of d (m .queue) (m .images) (m .state .count) }) (logged (logged-now .changes))
-    unfolding begun changed
+    invariant-here : Invariant (ground-of lent n) (record { store = m .store; queue = queue-of d (m .queue) (m .images) (m .state .count) }) (logged (told-now .changes))
+    unfolding log-start log-change
     invariant-here =
-        rw (moved, log-change d (lent .store) u (r .call .file) isn (update-of r c) (j .changes)) at
+        rw (moved, logged-change d (lent .store) u (r .call .file) isn (update-of r c) (j .changes)) at
         (kept-act (ground-of lent n) (laws-of capacity lent n (k .sized)) (seen lent n) (logged (j .changes)) (k .invariant) (machine.change u key-at (file-update r c))
         (change-allowed r n (k .sized .shape) (k .sized .valid) capacity made t a c lent))
 
@@ -110,28 +110,28 @@ module _ (lent : Lent) (n : Nucleus) (j : Journal) (r : Request) (p : Passed (r 
     people-here = record {
       user-count = before .people .user-count;
       users-sound = before .people .users-sound;
-      entries-active = users-same (is-active us) (entries-of m) (entries-of (held r isn n)) (ch .holds-same) ∙ before .people .entries-active;
+      entries-active = users-same (active-in us) (entries-of m) (entries-of (held r isn n)) (ch .holds-same) ∙ before .people .entries-active;
     }
 
-    told-here : Told (held r isn n .state .clock) us logged-now
-    unfolding changed
+    told-here : Told (held r isn n .state .clock) us told-now
+    unfolding log-change
     told-here = record {
       same-clock = before .told .same-clock;
       same-members = before .told .same-members;
       changes-sound =
-          all-append (change-sound us) (begun u j .changes) _
+          all-append (change-sound us) (log-start u j .changes) _
           ∙ rw (before .told .changes-sound, lt-ltb isn isn-bound (t .small), held-active capacity lent n j k r isn s holdable);
     }
 
-    pub kept-changed : Kept capacity lent m logged-now
+    pub kept-changed : Kept capacity lent m told-now
     kept-changed = record {
       sized = subst (λ x. Sized capacity lent x (m .store) (m .queue) (m .images) (m .state .count)) (sym (ch .definition)) (ch .sized);
       people = rw (ch .clock, ch .users) people-here;
-      marks-sound = rw (ch .marks, ch .definition, held-same r isn n (λ x. x .state .«last_assigned») refl) (k .marks-sound);
+      assigned-sound = rw (ch .assigned, ch .definition, held-same r isn n (λ x. x .state .«last_assigned») refl) (k .assigned-sound);
       data-sound = rw (ch .data-kept) (before .data-sound);
       told = rw (ch .clock, ch .users) told-here;
-      invariant = subst (λ x. Invariant (ground x (updates x) (lent .store)) (record { store = m .store; queue = queue-of x (m .queue) (m .images) (m .state .count) }) (logged (logged-now .changes))) (sym (ch .definition)) invariant-here;
+      invariant = subst (λ x. Invariant (ground x (updates x) (lent .store)) (record { store = m .store; queue = queue-of x (m .queue) (m .images) (m .state .count) }) (logged (told-now .changes))) (sym (ch .definition)) invariant-here;
     }
 
-    pub passed-changed : Passed capacity lent m logged-now
+    pub passed-changed : Passed capacity lent m told-now
     passed-changed = record { kept = kept-changed; rested = rw (ch .clock, ch .users) (rested-held n (p .rested) r isn) }

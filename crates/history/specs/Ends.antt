@@ -19,28 +19,27 @@ use Rattle.transactions.specs.Theorems.{kept-act}
 use Rattle.lists.specs.Maps.{all-over}
 use Rattle.ground.specs.Ground.{laws}
 use Rattle.ground.specs.Acts.{act-end, act-back-out}
-use Rattle.nucleus.specs.Users.{ended}
+use Rattle.nucleus.specs.Users.{is-active, ended}
 use Rattle.nucleus.specs.Nucleus.{Nucleus, max-users, user-of, with-user, with-state, entries-of}
-use Rattle.nucleus.specs.Clock.{removed, restored, backed-out}
+use Rattle.nucleus.specs.Clock.{removed, with-restored, backed-out}
 use Rattle.nucleus.specs.declared.User.{User}
 use Rattle.lists.specs.Every.{all-implies, all-set}
-use Rattle.history.specs.Journal.{Journal, Change, member, strikes, commits, struck}
-use Rattle.history.specs.Journal as journal
+use Rattle.claim.specs.Journal.{Journal, Change, member, strikes, commits, struck, log-end}
 use Rattle.history.specs.Updates.{updates, logged}
-use Rattle.history.specs.Lent.{Lent}
+use Rattle.claim.specs.Lent.{Lent}
 use Rattle.history.specs.Kept.{Kept, Sized, People, Told, definition-of, ground-of, seen, user-sound, entry-active, change-sound, member-of}
 use Rattle.history.specs.Sizes.{sized-removed, sized-restored}
 use Rattle.history.specs.UpdateLaws.{update-laws}
 use Rattle.history.specs.People.{change-isn, change-active, sound-change, sound-idle, active-other, members-set, member-is}
 use Rattle.history.specs.QueueMoves.{entries-removed}
-use Rattle.history.specs.Logs.{log-end, log-back-out}
+use Rattle.history.specs.Logs.{logged-end, logged-back-out}
 
 -- ---- laws of the machine's ground, of a sized nucleus
 pub laws-of : (capacity : ℕ) (lent : Lent) (n : Nucleus) → Sized capacity lent (definition-of n) (n .store) (n .queue) (n .images) (n .state .count) → Laws (ground-of lent n)
 laws-of capacity lent n s = laws (definition-of n) (s .shape) (s .valid) (updates (definition-of n)) (update-laws (definition-of n) (s .shape) (s .valid)) (lent .store)
 
 -- ---- the users, where one of them ends his transaction
-module _ (clock : ℕ) (us : List User) (u : ℕ) (least : 1 ≤ u) (most : u ≤ max-users) (x : User) (full : length us ≡ max-users) (idle : x .active ≡ false) where
+module _ (clock : ℕ) (us : List User) (u : ℕ) (least : 1 ≤ u) (most : u ≤ max-users) (x : User) (full : length us ≡ max-users) (idle : is-active x ≡ false) where
   abbrev us′ : List User
   us′ = set us (u - 1) x
 
@@ -75,8 +74,8 @@ module _ (clock : ℕ) (us : List User) (u : ℕ) (least : 1 ≤ u) (most : u �
       changes-sound = all-left (change-sound us) (λ c. not (strikes u c)) (change-sound us′) (λ c h s. other-change c (not-true _ s) h) (j .changes) (t .changes-sound);
     }
 
-    pub told-ended : Told clock us′ (journal.ended u j)
-    unfolding journal.ended
+    pub told-ended : Told clock us′ (log-end u j)
+    unfolding log-end
     told-ended = record {
       same-clock = t .same-clock;
       same-members = told-members;
@@ -98,37 +97,37 @@ module _ (capacity : ℕ) (lent : Lent) (n : Nucleus) (j : Journal) (k : Kept ca
   unfolding allowed
   back-out-allowed m = refl
 
-  module _ (x : User) (idle : x .active ≡ false) (same : member-of x ≡ record { limit = member j u .limit; start = none }) where
+  module _ (x : User) (idle : is-active x ≡ false) (same : member-of x ≡ record { limit = member j u .limit; start = none }) where
     -- ET
-    pub kept-ended : Kept capacity lent (with-state (with-user u x (removed (All u) n .state)) (removed (All u) n)) (journal.ended u j)
-    unfolding removed journal.ended
+    pub kept-ended : Kept capacity lent (with-state (with-user u x (removed (All u) n .state)) (removed (All u) n)) (log-end u j)
+    unfolding removed log-end
     kept-ended = record {
       sized = sized-removed capacity lent d (n .store) (n .queue) (n .images) (n .state .count) (k .sized) (All u);
       people = rw (entries-removed n capacity (k .sized .made) (All u)) (people-ended (n .state .clock) (n .state .users) u least most x (k .people .user-count) idle (entries-of n) (k .people));
-      marks-sound = k .marks-sound;
+      assigned-sound = k .assigned-sound;
       data-sound = k .data-sound;
       told = told-ended (n .state .clock) (n .state .users) u least most x (k .people .user-count) idle j (k .told) same;
       invariant =
-          rw (act-end d (k .sized .shape) (updates d) (lent .store) capacity (n .store) (n .queue) (n .images) (n .state .count) (k .sized .made) u, log-end d (lent .store) u (j .changes)) at
+          rw (act-end d (k .sized .shape) (updates d) (lent .store) capacity (n .store) (n .queue) (n .images) (n .state .count) (k .sized .made) u, logged-end d (lent .store) u (j .changes)) at
           (kept-act (ground-of lent n) (laws-of capacity lent n (k .sized)) (seen lent n) (logged (j .changes)) (k .invariant) (end u) (end-allowed (seen lent n)));
     }
 
     -- a back-out
-    pub kept-out : Kept capacity lent (with-state (with-user u x (removed (All u) (restored u n) .state)) (removed (All u) (restored u n))) (struck u j)
+    pub kept-out : Kept capacity lent (with-state (with-user u x (removed (All u) (with-restored u n) .state)) (removed (All u) (with-restored u n))) (struck u j)
     unfolding removed struck
     kept-out = record {
       sized = sized-removed capacity lent d _ (n .queue) (n .images) (n .state .count) (sized-restored capacity lent d (n .store) (n .queue) (n .images) (n .state .count) (k .sized) u) (All u);
       people = rw (entries-removed n capacity (k .sized .made) (All u)) (people-ended (n .state .clock) (n .state .users) u least most x (k .people .user-count) idle (entries-of n) (k .people));
-      marks-sound = k .marks-sound;
+      assigned-sound = k .assigned-sound;
       data-sound = k .data-sound;
       told = told-struck (n .state .clock) (n .state .users) u least most x (k .people .user-count) idle j (k .told) same;
       invariant =
-          rw (act-back-out d (k .sized .shape) (updates d) (lent .store) capacity (n .store) (n .queue) (n .images) (n .state .count) (k .sized .made) u, log-back-out d (lent .store) u (j .changes)) at
+          rw (act-back-out d (k .sized .shape) (updates d) (lent .store) capacity (n .store) (n .queue) (n .images) (n .state .count) (k .sized .made) u, logged-back-out d (lent .store) u (j .changes)) at
           (kept-act (ground-of lent n) (laws-of capacity lent n (k .sized)) (seen lent n) (logged (j .changes)) (k .invariant) (back-out u) (back-out-allowed (seen lent n)));
     }
 
   -- the journal has no start of him any more, and his limit still
-  pub idle-member : (x : User) → x .active ≡ false → x .session ≡ user-of n u .session → x .«time_limit» ≡ user-of n u .«time_limit»
+  pub idle-member : (x : User) → is-active x ≡ false → x .session ≡ user-of n u .session → x .«time_limit» ≡ user-of n u .«time_limit»
       → member-of x ≡ record { limit = member j u .limit; start = none }
   idle-member x idle session limit = rw (member-is (n .state .users) u j (k .told .same-members), idle, session, limit)
 

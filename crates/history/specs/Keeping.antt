@@ -1,4 +1,4 @@
--- What is kept where a call changes a user, ET data, N1's mark or the clock, and neither store, queue nor images.
+-- What is kept where a call changes a user, ET data, an ISN that N1 last gave or the clock, and neither store, queue nor images.
 -- Assumes nothing.
 use Prim.Native.Nat.{ℕ, zero, suc, _-_, _≤_, _<_}
 use mathlib.Core.Path.{_≡_, refl, sym, ap, _∙_}
@@ -12,14 +12,15 @@ use Rattle.lists.specs.Tests.{and-left, and-right}
 use Rattle.definition.specs.Table.{beyond, file-at, file-count, files-of}
 use Rattle.definition.specs.declared.File.{File}
 use Rattle.entries.specs.declared.Entry.{Entry}
-use Rattle.nucleus.specs.Nucleus.{Nucleus, max-users, user-of, with-user, with-data, with-mark, with-clock, with-state, entries-of}
-use Rattle.nucleus.specs.WellMade.{marks-made, data-made}
+use Rattle.nucleus.specs.Users.{is-active}
+use Rattle.nucleus.specs.Nucleus.{Nucleus, max-users, user-of, with-user, with-data, with-last-assigned, with-clock, with-state, entries-of}
+use Rattle.nucleus.specs.WellMade.{assigned-made, data-made}
 use Rattle.nucleus.specs.declared.User.{User}
 use Rattle.nucleus.specs.declared.EtData.{EtData}
 use Rattle.lists.specs.Every.{all-implies, all-set}
-use Rattle.history.specs.Journal.{Journal, new-member, with-member}
-use Rattle.history.specs.Lent.{Lent}
-use Rattle.history.specs.Kept.{Kept, People, Told, definition-of, user-sound, is-active, entry-active, change-sound, member-of, one-of-users}
+use Rattle.claim.specs.Journal.{Journal, new-member, with-member}
+use Rattle.claim.specs.Lent.{Lent}
+use Rattle.history.specs.Kept.{Kept, People, Told, definition-of, user-sound, active-in, entry-active, change-sound, member-of, one-of-users}
 use Rattle.history.specs.People.{change-isn, change-active, sound-change, sound-later, active-kept, members-set, member-is}
 
 -- ---- the users, where one of them becomes another value
@@ -28,8 +29,8 @@ module _ (clock : ℕ) (us : List User) (u : ℕ) (least : 1 ≤ u) (most : u �
   us′ = set us (u - 1) x
 
   -- he stays in a transaction, where he is in one
-  module _ (stays : one-of-users us u .active ≡ true → x .active ≡ true) where
-    still : (v : ℕ) → is-active us v ≡ true → is-active us′ v ≡ true
+  module _ (stays : is-active (one-of-users us u) ≡ true → is-active x ≡ true) where
+    still : (v : ℕ) → active-in us v ≡ true → active-in us′ v ≡ true
     still = active-kept us full u least most x stays
 
     pub people-user : (es : List Entry) → People clock us es → user-sound clock x ≡ true → People clock us′ es
@@ -52,21 +53,21 @@ same-member us u j h x like =
     ap (λ ms. record { clock = j .clock; members = ms; changes = j .changes })
     (ap (set (j .members) (u - 1)) (like ∙ sym (member-is us u j h)) ∙ set-getD (j .members) (u - 1) new-member)
 
-marks-set : (marks : List ℕ) (fs : List File) (i isn : ℕ) → marks-made marks fs ≡ true → isn ≤ getD fs i beyond .«max_isn» → marks-made (set marks i isn) fs ≡ true
-marks-set marks [] i isn h m = refl
-marks-set [] (f ∷ fs) i isn h m = refl
-marks-set (a ∷ marks) (f ∷ fs) zero isn h m = rw (le-leb isn (f .«max_isn») m) (and-right (leb a (f .«max_isn»)) (marks-made marks fs) h)
-marks-set (a ∷ marks) (f ∷ fs) (suc i) isn h m =
-    rw (and-left (leb a (f .«max_isn»)) (marks-made marks fs) h) (marks-set marks fs i isn (and-right (leb a (f .«max_isn»)) (marks-made marks fs) h) m)
+assigned-set : (isns : List ℕ) (fs : List File) (i isn : ℕ) → assigned-made isns fs ≡ true → isn ≤ getD fs i beyond .«max_isn» → assigned-made (set isns i isn) fs ≡ true
+assigned-set isns [] i isn h m = refl
+assigned-set [] (f ∷ fs) i isn h m = refl
+assigned-set (a ∷ isns) (f ∷ fs) zero isn h m = rw (le-leb isn (f .«max_isn») m) (and-right (leb a (f .«max_isn»)) (assigned-made isns fs) h)
+assigned-set (a ∷ isns) (f ∷ fs) (suc i) isn h m =
+    rw (and-left (leb a (f .«max_isn»)) (assigned-made isns fs) h) (assigned-set isns fs i isn (and-right (leb a (f .«max_isn»)) (assigned-made isns fs) h) m)
 
 module _ (capacity : ℕ) (lent : Lent) (n : Nucleus) (j : Journal) (k : Kept capacity lent n j) where
-  module _ (u : ℕ) (least : 1 ≤ u) (most : u ≤ max-users) (x : User) (sound : user-sound (n .state .clock) x ≡ true) (same : x .active ≡ user-of n u .active) where
+  module _ (u : ℕ) (least : 1 ≤ u) (most : u ≤ max-users) (x : User) (sound : user-sound (n .state .clock) x ≡ true) (same : is-active x ≡ is-active (user-of n u)) where
     -- a user becomes another value; he stays in his transaction, or out of one
     pub kept-user : Kept capacity lent (with-state (with-user u x (n .state)) n) (with-member u (member-of x) j)
     kept-user = record {
       sized = k .sized;
       people = people-user (n .state .clock) (n .state .users) u least most x (k .people .user-count) (λ a. same ∙ a) (entries-of n) (k .people) sound;
-      marks-sound = k .marks-sound;
+      assigned-sound = k .assigned-sound;
       data-sound = k .data-sound;
       told = told-user (n .state .clock) (n .state .users) u least most x (k .people .user-count) (λ a. same ∙ a) j (k .told);
       invariant = k .invariant;
@@ -80,19 +81,19 @@ module _ (capacity : ℕ) (lent : Lent) (n : Nucleus) (j : Journal) (k : Kept ca
   kept-data u x h = record {
     sized = k .sized;
     people = k .people;
-    marks-sound = k .marks-sound;
+    assigned-sound = k .assigned-sound;
     data-sound = all-set data-made (n .state .«et_data») (u - 1) x (k .data-sound) h;
     told = k .told;
     invariant = k .invariant;
   }
 
-  -- N1's mark, of the file at a place in use
-  pub kept-mark : (i isn : ℕ) → i < file-count (definition-of n) → isn ≤ file-at (definition-of n) i .«max_isn»
-      → Kept capacity lent (with-state (with-mark i isn (n .state)) n) j
-  kept-mark i isn used h = record {
+  -- the ISN that N1 last gave, of the file at a place in use
+  pub kept-assigned : (i isn : ℕ) → i < file-count (definition-of n) → isn ≤ file-at (definition-of n) i .«max_isn»
+      → Kept capacity lent (with-state (with-last-assigned i isn (n .state)) n) j
+  kept-assigned i isn used h = record {
     sized = k .sized;
     people = k .people;
-    marks-sound = marks-set (n .state .«last_assigned») (files-of (definition-of n)) i isn (k .marks-sound)
+    assigned-sound = assigned-set (n .state .«last_assigned») (files-of (definition-of n)) i isn (k .assigned-sound)
         (rw (getD-take (file-count (definition-of n)) (definition-of n .files) i beyond used) h);
     data-sound = k .data-sound;
     told = k .told;
@@ -109,7 +110,7 @@ module _ (capacity : ℕ) (lent : Lent) (n : Nucleus) (j : Journal) (k : Kept ca
       users-sound = all-implies (user-sound (n .state .clock)) (user-sound clock) (sound-later (n .state .clock) clock later) (n .state .users) (k .people .users-sound);
       entries-active = k .people .entries-active;
     };
-    marks-sound = k .marks-sound;
+    assigned-sound = k .assigned-sound;
     data-sound = k .data-sound;
     told = record { same-clock = refl; same-members = k .told .same-members; changes-sound = k .told .changes-sound };
     invariant = k .invariant;

@@ -20,13 +20,13 @@ use Rattle.transactions.specs.Theorems.{Invariant}
 use Rattle.ground.specs.Keys.{isn-bound}
 use Rattle.ground.specs.Ground.{ground}
 use Rattle.ground.specs.Queue.{queue-of, Made}
-use Rattle.nucleus.specs.Users.{default-time-limit, fresh-user, is-due}
+use Rattle.nucleus.specs.Users.{default-time-limit, fresh-user, is-active, is-due}
 use Rattle.nucleus.specs.Nucleus.{Nucleus, max-users, max-capacity, entries-of}
-use Rattle.nucleus.specs.WellMade.{marks-made, data-made}
+use Rattle.nucleus.specs.WellMade.{assigned-made, data-made}
 use Rattle.nucleus.specs.declared.User.{User}
-use Rattle.history.specs.Journal.{Journal, Member, Change}
+use Rattle.claim.specs.Journal.{Journal, Member, Change}
 use Rattle.history.specs.Updates.{updates, logged}
-use Rattle.history.specs.Lent.{Lent, Past}
+use Rattle.claim.specs.Lent.{Lent, Past}
 
 -- ---- what the abstract machine is, of a nucleus
 abbrev pub definition-of : Nucleus → Definition
@@ -40,30 +40,30 @@ abbrev pub seen : (lent : Lent) (n : Nucleus) → Machine (ground-of lent n)
 seen lent n = record { store = n .store; queue = queue-of (definition-of n) (n .queue) (n .images) (n .state .count) }
 
 -- ---- users
--- whoever is in a transaction has a session, began it not after the clock, and is neither marked nor access-only
+-- whoever is in a transaction has a session, began it not after the clock, and is neither overdue nor access-only
 abbrev pub user-sound : ℕ → User → Bool
-user-sound clock u = not (u .active) || (u .session && leb (u .begun) clock && not (u .overdue) && not (u .«access_only»))
+user-sound clock u = not (is-active u) || (u .session && leb (u .transaction .begun) clock && not (u .overdue) && not (u .«access_only»))
 
 -- a user of the list, from 1
 abbrev pub one-of-users : List User → ℕ → User
 one-of-users us u = getD us (u - 1) fresh-user
 
-abbrev pub is-active : List User → ℕ → Bool
-is-active us u = within 1 max-users u && one-of-users us u .active
+abbrev pub active-in : List User → ℕ → Bool
+active-in us u = within 1 max-users u && is-active (one-of-users us u)
 
 abbrev pub entry-active : List User → Entry → Bool
-entry-active us e = is-active us (e .user)
+entry-active us e = active-in us (e .user)
 
 -- a user as the journal has him: who has no session has the default limit
 abbrev pub start-of : User → Option ℕ
-start-of u = cond (u .active) (some (u .begun)) none
+start-of u = cond (is-active u) (some (u .transaction .begun)) none
 
 abbrev pub member-of : User → Member
 member-of u = record { limit = cond (u .session) (u .«time_limit») default-time-limit; start = start-of u }
 
 -- ---- changes: an ISN of two bytes; uncommitted only of a user in a transaction
 abbrev pub change-sound : List User → Change → Bool
-change-sound us c = ltb (c .isn) isn-bound && (not (c .uncommitted) || is-active us (c .user))
+change-sound us c = ltb (c .isn) isn-bound && (not (c .uncommitted) || active-in us (c .user))
 
 -- ---- all of it, by what it speaks of
 -- the table that set-up read, and the store, the queue and the images that were lent for it
@@ -91,7 +91,7 @@ module _ (capacity : ℕ) (lent : Lent) where
   pub record Kept (n : Nucleus) (j : Journal) : Type 0 where
     pub sized : Sized capacity lent (definition-of n) (n .store) (n .queue) (n .images) (n .state .count)
     pub people : People (n .state .clock) (n .state .users) (entries-of n)
-    pub marks-sound : marks-made (n .state .«last_assigned») (files-of (definition-of n)) ≡ true
+    pub assigned-sound : assigned-made (n .state .«last_assigned») (files-of (definition-of n)) ≡ true
     pub data-sound : all data-made (n .state .«et_data») ≡ true
     pub told : Told (n .state .clock) (n .state .users) j
     pub invariant : Invariant (ground-of lent n) (seen lent n) (logged (j .changes))

@@ -1,9 +1,3 @@
-pub mod Journal
-pub mod Run
-pub mod Claim
-pub mod Feeding
-pub mod Lent
-pub mod Statements
 pub mod Updates
 pub mod Kept
 pub mod Sizes
@@ -31,4 +25,5 @@ pub mod Serving
 pub mod Stepping
 pub mod Resting
 pub mod Records
+pub mod BackingOut
 pub mod Theorem

@@ -10,7 +10,7 @@ use Rattle.transactions.specs.Machine.{Ground, change, end, back-out, log, stri
 use Rattle.ground.specs.Keys.{key}
 use Rattle.ground.specs.Ground.{ground}
 use Rattle.definition.specs.declared.Definition.{Definition}
-use Rattle.history.specs.Journal.{Change, Update, strikes, commits}
+use Rattle.claim.specs.Journal.{Change, Update, strikes, commits}
 use Rattle.history.specs.Updates.{updates, as-change, logged}
 
 module _ (d : Definition) (lent : List ℕ) where
@@ -26,20 +26,20 @@ module _ (d : Definition) (lent : List ℕ) where
       go true i = ap (λ l. as-change c ∷ l) i
       go false i = i
 
-  logged-ended : (u : ℕ) (cs : List Change) → map (closed G u) (logged cs) ≡ logged (map (commits u) cs)
-  logged-ended u [] = refl
-  logged-ended u (c ∷ cs) = ap (λ l. as-change (commits u c) ∷ l) (logged-ended u cs)
+  logged-commits : (u : ℕ) (cs : List Change) → map (closed G u) (logged cs) ≡ logged (map (commits u) cs)
+  logged-commits u [] = refl
+  logged-commits u (c ∷ cs) = ap (λ l. as-change (commits u c) ∷ l) (logged-commits u cs)
 
-  pub log-back-out : (u : ℕ) (cs : List Change) → log G (back-out u) (logged cs) ≡ logged (sift (λ c. not (strikes u c)) cs)
+  pub logged-back-out : (u : ℕ) (cs : List Change) → log G (back-out u) (logged cs) ≡ logged (sift (λ c. not (strikes u c)) cs)
   unfolding log
-  log-back-out = logged-struck
+  logged-back-out = logged-struck
 
-  pub log-end : (u : ℕ) (cs : List Change) → log G (end u) (logged cs) ≡ logged (map (commits u) cs)
+  pub logged-end : (u : ℕ) (cs : List Change) → log G (end u) (logged cs) ≡ logged (map (commits u) cs)
   unfolding log
-  log-end = logged-ended
+  logged-end = logged-commits
 
-  pub log-change : (user file isn : ℕ) (update : Update) (cs : List Change)
+  pub logged-change : (user file isn : ℕ) (update : Update) (cs : List Change)
       → log G (change user (key file isn) (record { file = file; update = update })) (logged cs)
       ≡ logged (cs ++ record { user = user; file = file; isn = isn; update = update; uncommitted = true } ∷ [])
   unfolding log
-  log-change user file isn update cs = sym (map-append as-change cs _)
+  logged-change user file isn update cs = sym (map-append as-change cs _)

@@ -20,9 +20,9 @@ use Rattle.transactions.specs.Machine.{Entry as MachineEntry, of-user, at-key}
 use Rattle.ground.specs.Keys.{isn-bound, key}
 use Rattle.ground.specs.Queue.{queue-of, Made}
 use Rattle.ground.specs.Entries.{made-fits, queue-release, queue-release-all}
-use Rattle.nucleus.specs.Nucleus.{Nucleus, entries-of}
-use Rattle.nucleus.specs.Clock.{width-of, removed}
-use Rattle.nucleus.specs.Target.{held-by, changed-in}
+use Rattle.nucleus.specs.Nucleus.{Nucleus, entries-of, width-of}
+use Rattle.nucleus.specs.Clock.{removed}
+use Rattle.nucleus.specs.Target.{is-holder, is-changed}
 use Rattle.history.specs.Kept.{definition-of}
 
 -- ---- what the abstract machine has of a nucleus's queue; a well made one
@@ -53,12 +53,12 @@ module _ (n : Nucleus) (capacity : ℕ) (made : MadeIn capacity n) where
   seen-release-all u = queue-release-all (definition-of n) capacity (n .store) (n .queue) (n .images) (n .state .count) made u
 
   -- RI of an ISN: the one that he holds, unchanged
-  pub seen-release : (u file isn : ℕ) → isn < isn-bound → held-by u (holder (entries-of n) file isn) ≡ true → changed-in (holder (entries-of n) file isn) ≡ false
+  pub seen-release : (u file isn : ℕ) → isn < isn-bound → is-holder u (holder (entries-of n) file isn) ≡ true → is-changed (holder (entries-of n) file isn) ≡ false
       → queue-seen (removed (One file isn) n) ≡ sift (λ (e : MachineEntry). e .changed || not (of-user u e && at-key (key file isn) e)) (queue-seen n)
   unfolding removed
   seen-release u file isn small his new = go (holder (entries-of n) file isn) refl his new
     where
-      go : (found : Lookup) → holder (entries-of n) file isn ≡ found → held-by u found ≡ true → changed-in found ≡ false
+      go : (found : Lookup) → holder (entries-of n) file isn ≡ found → is-holder u found ≡ true → is-changed found ≡ false
           → queue-seen (removed (One file isn) n) ≡ sift (λ (e : MachineEntry). e .changed || not (of-user u e && at-key (key file isn) e)) (queue-seen n)
       go (Held i e) found h c = rw (eqb-true (e .user) u h) at (queue-release (definition-of n) capacity (n .store) (n .queue) (n .images) (n .state .count) made file isn i e small found c)
       go Free found h c = not-both false h refl

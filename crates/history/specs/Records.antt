@@ -32,11 +32,11 @@ use Rattle.ground.specs.Ground.{uniques}
 use Rattle.nucleus.specs.Nucleus.{Nucleus}
 use Rattle.nucleus.specs.declared.User.{User}
 use Rattle.nucleus.specs.Target.{part-in}
-use Rattle.history.specs.Journal.{Journal, Change, apply, is-at, replayed, record-told}
-use Rattle.history.specs.Run.{record-in}
-use Rattle.history.specs.Claim.{SameRecords, UniqueValues, file-numbered}
+use Rattle.claim.specs.Journal.{Journal, Change, apply, is-at, replayed, record-told}
+use Rattle.claim.specs.Run.{record-in}
+use Rattle.claim.specs.Claim.{SameRecords, UniqueValues, file-numbered}
 use Rattle.history.specs.Updates.{logged}
-use Rattle.history.specs.Lent.{Lent}
+use Rattle.claim.specs.Lent.{Lent}
 use Rattle.history.specs.Kept.{Kept, definition-of, ground-of, seen, change-sound}
 use Rattle.history.specs.People.{change-isn}
 use Rattle.history.specs.Ends.{laws-of}

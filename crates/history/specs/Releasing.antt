@@ -11,10 +11,10 @@ use Rattle.transactions.specs.Theorems.{Invariant, kept-act}
 use Rattle.ground.specs.Keys.{isn-bound, key}
 use Rattle.nucleus.specs.Nucleus.{Nucleus, entries-of}
 use Rattle.nucleus.specs.Clock.{removed}
-use Rattle.nucleus.specs.Target.{held-by, changed-in}
-use Rattle.history.specs.Journal.{Journal}
+use Rattle.nucleus.specs.Target.{is-holder, is-changed}
+use Rattle.claim.specs.Journal.{Journal}
 use Rattle.history.specs.Updates.{FileUpdate, logged}
-use Rattle.history.specs.Lent.{Lent}
+use Rattle.claim.specs.Lent.{Lent}
 use Rattle.history.specs.Kept.{Kept, definition-of, ground-of, seen, entry-active}
 use Rattle.history.specs.Sizes.{sized-removed}
 use Rattle.history.specs.Ends.{laws-of}
@@ -31,7 +31,7 @@ module _ (capacity : ℕ) (lent : Lent) (n : Nucleus) (j : Journal) (k : Kept ca
       users-sound = k .people .users-sound;
       entries-active = all-removed n capacity (k .sized .made) which (entry-active (n .state .users)) (k .people .entries-active);
     };
-    marks-sound = k .marks-sound;
+    assigned-sound = k .assigned-sound;
     data-sound = k .data-sound;
     told = k .told;
     invariant = i;
@@ -44,7 +44,7 @@ module _ (capacity : ℕ) (lent : Lent) (n : Nucleus) (j : Journal) (k : Kept ca
   unfolding allowed act log
   kept-release-all u = kept-removed (Unchanged u) (rw (seen-release-all n capacity (k .sized .made) u) (kept-operation (release-all u) refl))
 
-  pub kept-release : (u file isn : ℕ) → isn < isn-bound → held-by u (holder (entries-of n) file isn) ≡ true → changed-in (holder (entries-of n) file isn) ≡ false
+  pub kept-release : (u file isn : ℕ) → isn < isn-bound → is-holder u (holder (entries-of n) file isn) ≡ true → is-changed (holder (entries-of n) file isn) ≡ false
       → Kept capacity lent (removed (One file isn) n) j
   unfolding allowed act log
   kept-release u file isn small his new =

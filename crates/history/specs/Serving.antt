@@ -8,33 +8,34 @@ use mathlib.Core.Logic.{_⊎_, inl, inr}
 use mathlib.Core.Option.{none, some}
 use lib.Dec.{eqb, ltb}
 use lib.ListN.{length}
-use borrow.Author.Tests.{eqb-true, not-false}
-use Rattle.lists.specs.Tests.{and-false, cond, Outcome, holds, fails, outcome, within, not-both, and-left, and-right}
+use borrow.Author.Tests.{not-false}
+use Rattle.lists.specs.Tests.{cond, Outcome, holds, fails, outcome, not-both, and-left, and-right}
 use Rattle.lists.specs.Folds.{all}
 use Rattle.removal.specs.declared.Removal.the-variants.{One, Unchanged}
-use Rattle.nucleus.specs.Commands.{one-of, has-option, blank, option-I, option-H, option-A}
+use Rattle.nucleus.specs.Commands.{one-of, on-file, at-given-isn, holding, changing-held, on-session, serving-access-only, option-H, option-A}
+use Rattle.nucleus.specs.Users.{is-active}
 use Rattle.nucleus.specs.Responses.{number}
 use Rattle.nucleus.specs.Nucleus.{Nucleus, Request, Result, max-users, max-et-data, user-of}
-use Rattle.nucleus.specs.Target.{is-file, held-by, changed-in, found, file, holder-of, target, target-isn}
+use Rattle.nucleus.specs.Target.{is-holder, is-changed, file-place, holder-of, target, target-isn, held-by-caller, new-record}
 use Rattle.nucleus.specs.Clock.{removed}
-use Rattle.nucleus.specs.Rows.{new-record, Row, first-cause, his, access-refused, file-unknown, isn-invalid, record-length-refused, not-held, release-refused}
+use Rattle.nucleus.specs.Rows.{Row, first-cause, access-refused, record-length-refused, not-held, release-refused}
 use Rattle.nucleus.specs.Effects.{held, effect-at, released, written, erased, with-last}
 use Rattle.nucleus.specs.declared.Command.{Command}
 use Rattle.nucleus.specs.declared.Command.the-variants.{Hi, Ri, L1, L4, A1, E1, N1, N2, Et, Bt, Re, Op, Cl}
 use Rattle.nucleus.specs.declared.Response.{Response}
-use Rattle.history.specs.Journal.{Journal, add, begun, changed, is-early, answered}
-use Rattle.history.specs.Lent.{Lent}
+use Rattle.claim.specs.Journal.{Journal, add, is-early, log-start, log-change, log-answered}
+use Rattle.claim.specs.Lent.{Lent}
 use Rattle.history.specs.Kept.{Kept, Rested}
 use Rattle.history.specs.Accepted.{Accepted, is-cause}
-use Rattle.history.specs.Keeping.{kept-mark}
+use Rattle.history.specs.Keeping.{kept-assigned}
 use Rattle.history.specs.Passing.{Passed}
 use Rattle.history.specs.Holding.{Serving, holdable-at}
 use Rattle.history.specs.Releasing.{kept-release, kept-release-all}
 use Rattle.history.specs.Performing.{passed-held, passed-backed-out, passed-ended, passed-opened, passed-closed}
-use Rattle.history.specs.Changes.{Changes, replaces, erases, adds, adds-there, rest-fails, Aim, aim, file-there, given-inside, aim-at}
+use Rattle.history.specs.Changes.{Changes, replaces, erases, adds, adds-there, rest-fails, Aim, aim, aim-given}
 use Rattle.history.specs.ChangesLogged.{update-of, slot-of}
 use Rattle.history.specs.ChangesEffect.{Changed, written-changed, erased-changed}
-use Rattle.history.specs.Changing.{holding-here, passed-changed}
+use Rattle.history.specs.Changing.{held-here, passed-changed}
 
 -- ---- a cause that is neither 0 nor 9, nor of 72's row or an earlier one
 abbrev pub plain : Response → Bool
@@ -59,13 +60,13 @@ pub record Ready (r : Request) (n : Nucleus) : Type 0 where
   pub least : 1 ≤ r .call .user
   pub most : r .call .user ≤ max-users
   pub session : user-of n (r .call .user) .session ≡ true
-  pub unmarked : user-of n (r .call .user) .overdue ≡ false
-  pub idle : one-of (Op ∷ Cl ∷ []) (r .command) ≡ true → user-of n (r .call .user) .active ≡ false
-  pub option : has-option (r .command) (r .call .option) ≡ true
+  pub not-overdue : user-of n (r .call .user) .overdue ≡ false
+  pub idle : one-of on-session (r .command) ≡ true → is-active (user-of n (r .call .user)) ≡ false
+  pub access : access-refused (r .command) (r .call) n ≡ false
 
 -- what a call answers and leaves, beside what the journal makes of it
 pub record Served (lent : Lent) (r : Request) (j : Journal) (c : Command) (x : Result) : Type 0 where
-  pub passed : Passed (r .capacity) lent (x .nucleus) (answered (some c) (r .call) (r .format) (r .buffer) (number (x .answer .response)) (x .answer .isn) j)
+  pub passed : Passed (r .capacity) lent (x .nucleus) (log-answered (some c) (r .call) (r .format) (r .buffer) (number (x .answer .response)) (x .answer .isn) j)
   pub not-early : is-early (number (x .answer .response)) ≡ false
 
 module _ (lent : Lent) (n : Nucleus) (j : Journal) (r : Request) (p : Passed (r .capacity) lent n j) (y : Ready r n) (a : Accepted r n) where
@@ -79,41 +80,18 @@ module _ (lent : Lent) (n : Nucleus) (j : Journal) (r : Request) (p : Passed (r 
   k = p .kept
 
   -- row 29
-  serving : one-of (Op ∷ Cl ∷ L1 ∷ Re ∷ []) (r .command) ≡ false → Serving u n
+  serving : one-of serving-access-only (r .command) ≡ false → Serving u n
   unfolding access-refused
   serving other = record {
     least = y .least;
     most = y .most;
     session = y .session;
-    unmarked = y .unmarked;
-    changing = front-fails (user-of n u .«access_only») (not (one-of (Op ∷ Cl ∷ L1 ∷ Re ∷ []) (r .command))) (rw other) (a .access);
+    not-overdue = y .not-overdue;
+    changing = front-fails (user-of n u .«access_only») (not (one-of serving-access-only (r .command))) (rw other) (y .access);
   }
-
-  -- rows 17, 113 and 3: the ISN given, or the one found
-  given-aim : one-of (N1 ∷ []) (r .command) ≡ false → is-file (found r n) ≡ true
-      → (not (eqb (r .call .option) option-I) && not (within 1 (file r n .«max_isn») (r .call .isn))) ≡ false → Aim r n
-  given-aim other there valid =
-      let x = file-there (found r n) there in
-      aim-at r n (k .sized .shape) (x .0) (x .1) (given-inside r n other valid (a .found))
 
   -- ---- HI and L4
   module _ (c : (r .command ≡ Hi) ⊎ (r .command ≡ L4)) where
-    there : is-file (found r n) ≡ true
-    unfolding file-unknown
-    there = go c
-      where
-        go : (r .command ≡ Hi) ⊎ (r .command ≡ L4) → is-file (found r n) ≡ true
-        go (inl e) = not-false _ (rw e at (a .file))
-        go (inr e) = not-false _ (rw e at (a .file))
-
-    valid : (not (eqb (r .call .option) option-I) && not (within 1 (file r n .«max_isn») (r .call .isn))) ≡ false
-    unfolding isn-invalid
-    valid = go c
-      where
-        go : (r .command ≡ Hi) ⊎ (r .command ≡ L4) → (not (eqb (r .call .option) option-I) && not (within 1 (file r n .«max_isn») (r .call .isn))) ≡ false
-        go (inl e) = rw e at (a .isn)
-        go (inr e) = rw e at (a .isn)
-
     -- of these two a test says one thing
     as-both : (t : Command → Bool) (b : Bool) → t Hi ≡ b → t L4 ≡ b → t (r .command) ≡ b
     as-both t b h l = go c
@@ -122,39 +100,30 @@ module _ (lent : Lent) (n : Nucleus) (j : Journal) (r : Request) (p : Passed (r 
         go (inl e) = rw e h
         go (inr e) = rw e l
 
-    holds-isn : Passed (r .capacity) lent (held r isn n) (begun u j)
+    holds-isn : Passed (r .capacity) lent (held r isn n) (log-start u j)
     holds-isn =
-        passed-held (r .capacity) lent n j p r isn (serving (as-both (one-of (Op ∷ Cl ∷ L1 ∷ Re ∷ [])) false refl refl))
-        (holdable-at r n a (as-both (one-of (Hi ∷ L4 ∷ A1 ∷ E1 ∷ N1 ∷ N2 ∷ [])) true refl refl) (given-aim (as-both (one-of (N1 ∷ [])) false refl refl) there valid))
+        passed-held (r .capacity) lent n j p r isn (serving (as-both (one-of serving-access-only) false refl refl))
+        (holdable-at r n a (as-both (one-of holding) true refl refl) (aim-given r n (k .sized .shape) a (as-both (one-of (N1 ∷ [])) false refl refl) (as-both (one-of at-given-isn) true refl refl) (as-both (one-of on-file) true refl refl)
+        (as-both (λ d. one-of (Ri ∷ []) d && eqb (r .call .isn) 0) false refl refl)))
 
   -- ---- RI
   module _ (e : r .command ≡ Ri) where
-    -- row 22: it has no option but the blank
-    no-option : eqb (r .call .option) option-I ≡ false
-    unfolding has-option
-    no-option = go (outcome (eqb (r .call .option) blank))
-      where
-        go : Outcome (eqb (r .call .option) blank) → eqb (r .call .option) option-I ≡ false
-        go (holds t) = rw (eqb-true (r .call .option) blank t)
-        go (fails t) = not-both false (rw (e, t, and-false (eqb (r .call .option) option-I), and-false (eqb (r .call .option) option-H), and-false (eqb (r .call .option) option-A)) at (y .option)) refl
-
     target-is : isn ≡ r .call .isn
     unfolding target
-    target-is = rw (e, no-option)
+    target-is = rw e
 
     -- of one ISN
     module _ (one : eqb (r .call .isn) 0 ≡ false) where
       released-aim : Aim r n
-      unfolding file-unknown isn-invalid
-      released-aim = given-aim (rw e) (not-false _ (rw (e, one) at (a .file))) (rw (e, one) at (a .isn))
+      released-aim = aim-given r n (k .sized .shape) a (rw e) (rw e) (rw e) (rw (e, one))
 
-      released-his : held-by u (holder-of r n isn) ≡ true
+      released-his : is-holder u (holder-of r n isn) ≡ true
       unfolding not-held
       released-his =
-          let needs : ((one-of (A1 ∷ E1 ∷ []) (r .command) && not (eqb (r .call .option) option-H)) || (one-of (Ri ∷ []) (r .command) && not (eqb (r .call .isn) 0))) ≡ true = rw (e, one) in
-          not-false (his r n) (rest-fails _ (not (his r n)) needs (a .held))
+          let needs : ((one-of changing-held (r .command) && not (eqb (r .call .option) option-H)) || (one-of (Ri ∷ []) (r .command) && not (eqb (r .call .isn) 0))) ≡ true = rw (e, one) in
+          not-false (held-by-caller r n) (rest-fails _ (not (held-by-caller r n)) needs (a .held))
 
-      released-new : changed-in (holder-of r n (r .call .isn)) ≡ false
+      released-new : is-changed (holder-of r n (r .call .isn)) ≡ false
       unfolding release-refused
       released-new = rw (e, one) at (a .unchanged)
 
@@ -179,26 +148,26 @@ module _ (lent : Lent) (n : Nucleus) (j : Journal) (r : Request) (p : Passed (r 
 
   -- ---- A1, E1, N1, N2
   module _ (c : Changes r) (s : Serving u n) where
-    changes-to : (m : Nucleus) → Changed (r .capacity) lent r n (slot-of r n c) m → Passed (r .capacity) lent m (changed (r .call) isn (update-of r c) (begun u j))
+    changes-to : (m : Nucleus) → Changed (r .capacity) lent r n (slot-of r n c) m → Passed (r .capacity) lent m (log-change (r .call) isn (update-of r c) (log-start u j))
     changes-to m ch = passed-changed lent n j r p s a c m ch
 
     to-written : Changed (r .capacity) lent r n (some (new-record r n isn)) (written r isn n)
-    to-written = written-changed (r .capacity) lent r n (aim r n (k .sized .shape) (k .marks-sound) a c) (holding-here lent n j r p s a c)
+    to-written = written-changed (r .capacity) lent r n (aim r n (k .sized .shape) a (k .assigned-sound) c) (held-here lent n j r p s a c)
 
     to-erased : Changed (r .capacity) lent r n none (erased r isn n)
-    to-erased = erased-changed (r .capacity) lent r n (aim r n (k .sized .shape) (k .marks-sound) a c) (holding-here lent n j r p s a c)
+    to-erased = erased-changed (r .capacity) lent r n (aim r n (k .sized .shape) a (k .assigned-sound) c) (held-here lent n j r p s a c)
 
-  -- N1 keeps its mark
-  marked-last : (e : r .command ≡ N1) → Passed (r .capacity) lent (with-last r (found r n) isn (written r isn n)) (changed (r .call) isn (add (r .format) (r .buffer)) (begun u j))
-  marked-last e =
+  -- N1 keeps the ISN that it gave
+  added-new : (e : r .command ≡ N1) → Passed (r .capacity) lent (with-last r (file-place r n) isn (written r isn n)) (log-change (r .call) isn (add (r .format) (r .buffer)) (log-start u j))
+  added-new e =
       let c : Changes r = adds e in
       let s = serving (rw e) in
-      let t = aim r n (k .sized .shape) (k .marks-sound) a c in
+      let t = aim r n (k .sized .shape) a (k .assigned-sound) c in
       let ch = to-written c s in
       let after = changes-to c s (written r isn n) ch in
       rw (t .found)
       (record {
-        kept = kept-mark (r .capacity) lent (written r isn n) _ (after .kept) (t .at) isn (rw (ch .definition) (t .in-use)) (rw (ch .definition) (t .inside .most));
+        kept = kept-assigned (r .capacity) lent (written r isn n) _ (after .kept) (t .at) isn (rw (ch .definition) (t .in-use)) (rw (ch .definition) (t .inside .most));
         rested = after .rested;
       })
 
@@ -216,7 +185,7 @@ module _ (lent : Lent) (n : Nucleus) (j : Journal) (r : Request) (p : Passed (r 
   served-effect L4 e = record { passed = holds-isn (inr e); not-early = refl }
   served-effect A1 e = record { passed = changes-to (replaces e) (serving (rw e)) _ (to-written (replaces e) (serving (rw e))); not-early = refl }
   served-effect E1 e = record { passed = changes-to (erases e) (serving (rw e)) _ (to-erased (erases e) (serving (rw e))); not-early = refl }
-  served-effect N1 e = record { passed = marked-last e; not-early = refl }
+  served-effect N1 e = record { passed = added-new e; not-early = refl }
   served-effect N2 e = record { passed = changes-to (adds-there e) (serving (rw e)) _ (to-written (adds-there e) (serving (rw e))); not-early = refl }
   served-effect Et e = record { passed = passed-ended (r .capacity) lent n j p r (y .least) (y .most) (data-short e); not-early = refl }
   served-effect Bt e = record { passed = passed-backed-out (r .capacity) lent n j p r (y .least) (y .most); not-early = refl }

@@ -29,15 +29,15 @@ use Rattle.ground.specs.Fresh.{fresh-room, fresh-store-is, fresh-store-length, 
 use Rattle.ground.specs.Ground.{ground, laws}
 use Rattle.ground.specs.Queue.{queue-of}
 use Rattle.nucleus.specs.Nucleus.{Nucleus, max-capacity, fresh-state}
-use Rattle.nucleus.specs.WellMade.{too-short, marks-made}
+use Rattle.nucleus.specs.WellMade.{too-short, assigned-made}
 use Rattle.nucleus.specs.Step.{SetUp, freshened, not-set-up, set-up-as, set-up-at, set-up}
 use Rattle.nucleus.specs.declared.Response.{Response}
 use Rattle.nucleus.specs.declared.Response.the-variants.{Good, DefinitionInvalid, BufferTooShort}
-use Rattle.history.specs.Journal.{new-journal}
+use Rattle.claim.specs.Journal.{new-journal}
 use Rattle.history.specs.Updates.{updates, logged}
 use Rattle.history.specs.UpdateLaws.{update-laws}
 use Rattle.history.specs.ReadShape.{read-shape}
-use Rattle.history.specs.Lent.{Lent, Alike}
+use Rattle.claim.specs.Lent.{Lent, Alike}
 use Rattle.history.specs.Sizes.{alike-self}
 use Rattle.history.specs.Kept.{seen, ground-of, Kept, Rested}
 
@@ -62,11 +62,11 @@ freshened-from : (d : Definition) (is store : List ℕ) → freshened d is store
 freshened-from d [] store = refl
 freshened-from d (i ∷ is) store = freshened-from d is _
 
--- ---- marks of 0
-no-marks : (n : ℕ) (fs : List File) → marks-made (replicate n 0) fs ≡ true
-no-marks n [] = refl
-no-marks zero (f ∷ fs) = refl
-no-marks (suc n) (f ∷ fs) = rw (le-leb 0 (f .«max_isn») (omega arith)) (no-marks n fs)
+-- ---- N1 has given no ISN yet
+none-assigned : (n : ℕ) (fs : List File) → assigned-made (replicate n 0) fs ≡ true
+none-assigned n [] = refl
+none-assigned zero (f ∷ fs) = refl
+none-assigned (suc n) (f ∷ fs) = rw (le-leb 0 (f .«max_isn») (omega arith)) (none-assigned n fs)
 
 module _ (capacity : ℕ) (store queue images : List ℕ) where
   abbrev lent : Definition → Lent
@@ -76,18 +76,18 @@ module _ (capacity : ℕ) (store queue images : List ℕ) where
   fresh-alike d s room = record { same-length = fresh-store-length d s store room; same-past = fresh-store-past d s store room }
 
   -- the nucleus that a set-up leaves
-  abbrev started : Definition → Nucleus
-  started d = record { state = fresh-state d; store = fresh-store d store; queue = queue; images = images }
+  abbrev fresh-nucleus : Definition → Nucleus
+  fresh-nucleus d = record { state = fresh-state d; store = fresh-store d store; queue = queue; images = images }
 
   -- ---- a fresh nucleus has what is kept
   module _ (d : Definition) (s : DefinitionShape d) (v : valid d ≡ true) (long : Long d capacity store queue images) where
-    none-seen : Invariant (ground-of (lent d) (started d)) (seen (lent d) (started d)) (logged (new-journal .changes))
+    none-seen : Invariant (ground-of (lent d) (fresh-nucleus d)) (seen (lent d) (fresh-nucleus d)) (logged (new-journal .changes))
     unfolding begin queue-of entries
     none-seen = kept-begin (ground d (updates d) store) (laws d s v (updates d) (update-laws d s v) store)
 
-    kept-started : Kept capacity (lent d) (started d) new-journal
+    kept-fresh : Kept capacity (lent d) (fresh-nucleus d) new-journal
     unfolding entries repeated
-    kept-started = record {
+    kept-fresh = record {
       sized = record {
         same-table = refl;
         shape = s;
@@ -104,7 +104,7 @@ module _ (capacity : ℕ) (store queue images : List ℕ) where
         past = record { store-past = fresh-alike d s (long .store-room); queue-past = alike-self capacity queue; images-past = alike-self (capacity * image-length d) images };
       };
       people = record { user-count = refl; users-sound = refl; entries-active = refl };
-      marks-sound = no-marks max-files (files-of d);
+      assigned-sound = none-assigned max-files (files-of d);
       data-sound = refl;
       told = record { same-clock = refl; same-members = refl; changes-sound = refl };
       invariant = none-seen;
@@ -117,9 +117,9 @@ module _ (capacity : ℕ) (store queue images : List ℕ) where
     pub store-past : Alike (store-size (n .state .definition)) (n .store) store
 
   -- how a set-up ends: with the table, or with nothing set up
-  data Ended (d : Definition) : SetUp → Type 0 where
-    done : valid d ≡ true → Long d capacity store queue images → Ended d (record { response = Good; nucleus = started d })
-    undone : (cause : Response) → (cause ≡ Good → ⊥) → Ended d (not-set-up capacity store queue images cause)
+  data SetUpEnd (d : Definition) : SetUp → Type 0 where
+    done : valid d ≡ true → Long d capacity store queue images → SetUpEnd d (record { response = Good; nucleus = fresh-nucleus d })
+    undone : (cause : Response) → (cause ≡ Good → ⊥) → SetUpEnd d (not-set-up capacity store queue images cause)
 
   no-table : DefinitionInvalid ≡ Good → ⊥
   no-table e = let z : _≡_ {A = ℕ} 0 1 = cc in omega arith
@@ -127,10 +127,10 @@ module _ (capacity : ℕ) (store queue images : List ℕ) where
   no-room : BufferTooShort ≡ Good → ⊥
   no-room e = let z : _≡_ {A = ℕ} 0 1 = cc in omega arith
 
-  ended-as : (d : Definition) → DefinitionShape d → valid d ≡ true → Ended d (set-up-as capacity store queue images d)
-  ended-as d s v = go (outcome (too-short d capacity store queue images))
+  end-as : (d : Definition) → DefinitionShape d → valid d ≡ true → SetUpEnd d (set-up-as capacity store queue images d)
+  end-as d s v = go (outcome (too-short d capacity store queue images))
     where
-      go : Outcome (too-short d capacity store queue images) → Ended d (set-up-as capacity store queue images d)
+      go : Outcome (too-short d capacity store queue images) → SetUpEnd d (set-up-as capacity store queue images d)
       go (holds h) = rw h (undone BufferTooShort no-room)
       go (fails h) =
           let long = long-enough d capacity store queue images h in
@@ -141,23 +141,23 @@ module _ (capacity : ℕ) (store queue images : List ℕ) where
     abbrev d : Definition
     d = read-table table .definition
 
-    set-up-ended : Ended d (set-up capacity store queue images table)
+    set-up-end : SetUpEnd d (set-up capacity store queue images table)
     unfolding set-up
-    set-up-ended = go (read-table table .end) refl
+    set-up-end = go (read-table table .end) refl
       where
-        go : (e : End) → read-table table .end ≡ e → Ended d (set-up-at capacity store queue images e (length table) d)
+        go : (e : End) → read-table table .end ≡ e → SetUpEnd d (set-up-at capacity store queue images e (length table) d)
         go Broken q = undone DefinitionInvalid no-table
         go (At end) q = whole (outcome (eqb end (length table)))
           where
-            whole : Outcome (eqb end (length table)) → Ended d (set-up-at capacity store queue images (At end) (length table) d)
-            whole (holds h) = rw h (ended-as d (read-shape table) (read-valid table end q))
+            whole : Outcome (eqb end (length table)) → SetUpEnd d (set-up-at capacity store queue images (At end) (length table) d)
+            whole (holds h) = rw h (end-as d (read-shape table) (read-valid table end q))
             whole (fails h) = rw h (undone DefinitionInvalid no-table)
 
     -- ---- "Bytes and entries past these sizes are never touched", whatever it answers
     pub set-up-touches : Untouched (set-up capacity store queue images table .nucleus)
-    set-up-touches = go set-up-ended
+    set-up-touches = go set-up-end
       where
-        go : {r : SetUp} → Ended d r → Untouched (r .nucleus)
+        go : {r : SetUp} → SetUpEnd d r → Untouched (r .nucleus)
         go (done v long) = record { queue-kept = refl; images-kept = refl; store-past = fresh-alike d (read-shape table) (long .store-room) }
         go (undone cause other) = record { queue-kept = refl; images-kept = refl; store-past = alike-self (store-size no-definition) store }
 
@@ -167,15 +167,15 @@ module _ (capacity : ℕ) (store queue images : List ℕ) where
       n = set-up capacity store queue images table .nucleus
 
       -- it is the fresh nucleus of the table, which is valid
-      by-started : (P : Nucleus → Type 0) → (valid d ≡ true → Long d capacity store queue images → P (started d)) → P n
-      by-started P h = go set-up-ended good
+      by-fresh : (P : Nucleus → Type 0) → (valid d ≡ true → Long d capacity store queue images → P (fresh-nucleus d)) → P n
+      by-fresh P h = go set-up-end good
         where
-          go : {r : SetUp} → Ended d r → r .response ≡ Good → P (r .nucleus)
+          go : {r : SetUp} → SetUpEnd d r → r .response ≡ Good → P (r .nucleus)
           go (done v long) e = h v long
           go (undone cause other) e = absurd (other e)
 
       pub kept-set-up : Kept capacity (lent d) n new-journal
-      kept-set-up = by-started (λ m. Kept capacity (lent d) m new-journal) (kept-started d (read-shape table))
+      kept-set-up = by-fresh (λ m. Kept capacity (lent d) m new-journal) (kept-fresh d (read-shape table))
 
       pub rested-set-up : Rested n
-      rested-set-up = by-started Rested (λ v long. refl)
+      rested-set-up = by-fresh Rested (λ v long. refl)

@@ -32,7 +32,7 @@ use Rattle.ground.specs.Queue.{key-of, Made}
 use Rattle.ground.specs.Entries.{made-fits}
 use Rattle.ground.specs.Kept.{made-append, made-first-change, made-remove, made-put, made-restore}
 use Rattle.ground.specs.Restore.{restore-length, restore-past}
-use Rattle.history.specs.Lent.{Lent, Alike, Past}
+use Rattle.claim.specs.Lent.{Lent, Alike, Past}
 use Rattle.history.specs.Kept.{Sized}
 
 -- ---- alike past a size
@@ -144,9 +144,9 @@ module _ (capacity : ℕ) (lent : Lent) (d : Definition) (store queue images : L
 
   -- ---- a first change, or a later one
   module _ (at : ℕ) (existed : Bool) (content : List ℕ) (inside : at < count) where
-    queue-marked : Alike capacity (first-change-queue queue at existed) queue
+    queue-changed : Alike capacity (first-change-queue queue at existed) queue
     unfolding first-change-queue change
-    queue-marked = go (settled queue at)
+    queue-changed = go (settled queue at)
       where
         go : (b : Bool) → Alike capacity (cond b queue (change queue at existed)) queue
         go true = alike-self capacity queue
@@ -175,4 +175,4 @@ module _ (capacity : ℕ) (lent : Lent) (d : Definition) (store queue images : L
     pub sized-first-change : Sized capacity lent d store (first-change-queue queue at existed) (first-change-images queue images width at existed content) count
     sized-first-change = sized-as _ _ _ _
         (made-first-change d capacity store queue images count (s .made) at existed content inside)
-        (past-queue _ _ queue-marked images-changed)
+        (past-queue _ _ queue-changed images-changed)

@@ -14,12 +14,13 @@ use Rattle.entries.specs.declared.Entry.{Entry}
 use Rattle.ground.specs.Keys.{isn-bound, key, file-of-key, isn-of-key, known}
 use Rattle.ground.specs.Queue.{entry-known}
 use Rattle.ground.specs.Reading.{entries-small}
+use Rattle.nucleus.specs.Users.{is-active}
 use Rattle.nucleus.specs.Nucleus.{Nucleus, entries-of}
 use Rattle.nucleus.specs.WellMade.{too-short, entry-made, user-made, well-made}
 use Rattle.nucleus.specs.declared.User.{User}
 use Rattle.lists.specs.Every.{all-implies, all-index}
-use Rattle.history.specs.Journal.{Journal}
-use Rattle.history.specs.Lent.{Lent}
+use Rattle.claim.specs.Journal.{Journal}
+use Rattle.claim.specs.Lent.{Lent}
 use Rattle.history.specs.Kept.{Kept, definition-of, user-sound, entry-active}
 use Rattle.history.specs.People.{active-sound}
 
@@ -29,10 +30,10 @@ unfolding known
 within-of-known d file isn small h = rw (file-of-key file isn small, isn-of-key file isn small) at h
 
 made-of-sound : (clock : ℕ) (u : User) → user-sound clock u ≡ true → user-made clock u ≡ true
-made-of-sound clock u h = go (outcome (u .active))
+made-of-sound clock u h = go (outcome (is-active u))
   where
-    go : Outcome (u .active) → user-made clock u ≡ true
-    go (holds a) = let s = active-sound clock u h a in rw (a, s .session, le-leb (u .begun) clock (s .begun))
+    go : Outcome (is-active u) → user-made clock u ≡ true
+    go (holds a) = let s = active-sound clock u h a in rw (a, s .session, le-leb (u .transaction .begun) clock (s .begun))
     go (fails a) = rw a
 
 module _ (capacity : ℕ) (lent : Lent) (n : Nucleus) (j : Journal) (k : Kept capacity lent n j) where
@@ -56,7 +57,7 @@ module _ (capacity : ℕ) (lent : Lent) (n : Nucleus) (j : Journal) (k : Kept ca
     k .sized .made .single,
     entries-made,
     all-implies (user-sound (n .state .clock)) (user-made (n .state .clock)) (made-of-sound (n .state .clock)) (n .state .users) (k .people .users-sound),
-    k .marks-sound,
+    k .assigned-sound,
     k .data-sound,
   )
 

@@ -11,26 +11,23 @@ use lib.Seq.{set-getD}
 use borrow.Author.Tests.{eqb-true, not-true}
 use Rattle.lists.specs.Tests.{cond, Outcome, holds, fails, outcome, within, within-least, within-most, not-both, and-left, and-right}
 use Rattle.lists.specs.Sift.{sift, sift-all}
-use Rattle.nucleus.specs.Commands.{command-of, one-of, has-option}
-use Rattle.nucleus.specs.Users.{opened, marked, is-due}
+use Rattle.nucleus.specs.Commands.{commands, command-of, one-of, on-session, has-option}
+use Rattle.nucleus.specs.Users.{opened, with-overdue, is-active, is-due}
 use Rattle.nucleus.specs.Responses.{number}
-use Rattle.nucleus.specs.Nucleus.{Nucleus, Request, Result, max-users, user-of, change-user}
-use Rattle.nucleus.specs.Clock as nucleus
-use Rattle.nucleus.specs.Clock.{backed-out}
-use Rattle.nucleus.specs.Rows.{row, first-cause, rows-first, rows-last, understood, overdue-mark, ends-active}
+use Rattle.nucleus.specs.Nucleus.{Nucleus, Request, request, Result, max-users, user-of, change-user}
+use Rattle.nucleus.specs.Clock.{backed-out, clocked}
+use Rattle.nucleus.specs.Rows.{row, first-cause, rows-usable, rows-understood, rows-last, understood, is-overdue, session-in-transaction, access-refused}
 use Rattle.nucleus.specs.Effects.{effect}
-use Rattle.nucleus.specs.Step.{unless, refusal, perform, serve, request, serve-command, step}
+use Rattle.nucleus.specs.Step.{Admission, unless-refused, admitted-session, admitted-user, admitted-command, admitted, unless, refusal, perform, serve, step}
 use Rattle.nucleus.specs.declared.Command.{Command}
-use Rattle.nucleus.specs.declared.Command.the-variants.{Op, Cl}
 use Rattle.nucleus.specs.declared.Call.{Call}
 use Rattle.nucleus.specs.declared.Response.{Response}
-use Rattle.nucleus.specs.declared.Response.the-variants.{BackedOut, CommandUnknown, UserUnknown}
+use Rattle.nucleus.specs.declared.Response.the-variants.{AccessOnly, BackedOut, CommandUnknown, UserUnknown}
 use Rattle.nucleus.specs.declared.User.{User}
 use Rattle.lists.specs.Every.{all-implies}
-use Rattle.history.specs.Journal as journal
-use Rattle.history.specs.Journal.{Journal, Change, new-member, member, strikes, struck, is-early, fed}
-use Rattle.history.specs.Statements.{unusable}
-use Rattle.history.specs.Lent.{Lent}
+use Rattle.claim.specs.Journal.{Journal, Change, new-member, member, strikes, struck, is-early, log-clock, fed}
+use Rattle.claim.specs.Statements.{unusable}
+use Rattle.claim.specs.Lent.{Lent}
 use Rattle.history.specs.Kept.{Kept, user-sound, change-sound, member-of}
 use Rattle.history.specs.Accepted.{accepted, is-cause}
 use Rattle.history.specs.People.{change-active, active-sound, sound-idle, user-own, member-is}
@@ -40,8 +37,12 @@ use Rattle.history.specs.Standing.{well-made-kept, long-kept}
 use Rattle.history.specs.Performing.{quiet-user, rested-set, idle-quiet, passed-backed-out}
 use Rattle.history.specs.Serving.{plain, first-plain, Ready, Served, served-effect}
 
+-- a call that is turned away or let in
+abbrev served-by : Request → Admission → Result
+served-by r a = serve a (r .capacity) (r .call) (r .format) (r .buffer)
+
 -- ---- the rows of 29 and after, and the effect
-module _ (lent : Lent) (n : Nucleus) (j : Journal) (r : Request) (p : Passed (r .capacity) lent n j) (y : Ready r n) where
+module _ (lent : Lent) (n : Nucleus) (j : Journal) (r : Request) (p : Passed (r .capacity) lent n j) where
   -- a refusal that is neither 0 nor 9 tells the journal nothing but the clock
   refused-plain : (c : Response) → plain c ≡ true → Served lent r j (r .command) (refusal (r .buffer) n c)
   refused-plain c h =
@@ -50,23 +51,31 @@ module _ (lent : Lent) (n : Nucleus) (j : Journal) (r : Request) (p : Passed (r 
       let early : is-early (number c) ≡ false = not-true _ (search (and-left, and-right)) in
       record { passed = rw (zero, nine) p; not-early = early }
 
-  pub performed : Served lent r j (r .command) (perform r n)
+  performed : Ready r n → Served lent r j (r .command) (perform r n)
   unfolding perform
-  performed = go (first-cause (rows-last r n)) refl
+  performed y = go (first-cause (rows-last r n)) refl
     where
       go : (x : Option Response) → first-cause (rows-last r n) ≡ x → Served lent r j (r .command) (unless x (refusal (r .buffer) n) (effect r n))
       go none e = served-effect lent n j r p y (accepted r n (ap is-cause e)) (r .command) refl
       go (some c) e = refused-plain c (first-plain (rows-last r n) refl c e)
 
+  served-session : (access-refused (r .command) (r .call) n ≡ false → Ready r n) → Served lent r j (r .command) (served-by r (admitted-session (r .command) (r .call) n))
+  unfolding admitted-session
+  served-session ready = go (outcome (access-refused (r .command) (r .call) n))
+    where
+      go : Outcome (access-refused (r .command) (r .call) n) → Served lent r j (r .command) (served-by r (admitted-session (r .command) (r .call) n))
+      go (holds t) = rw t (refused-plain AccessOnly refl)
+      go (fails t) = rw t (performed (ready t))
+
 -- ---- a user in no transaction has nothing to strike
-module _ (capacity : ℕ) (lent : Lent) (n : Nucleus) (j : Journal) (k : Kept capacity lent n j) (u : ℕ) (idle : user-of n u .active ≡ false) where
+module _ (capacity : ℕ) (lent : Lent) (n : Nucleus) (j : Journal) (k : Kept capacity lent n j) (u : ℕ) (idle : is-active (user-of n u) ≡ false) where
   not-struck : (c : Change) → change-sound (n .state .users) c ≡ true → not (strikes u c) ≡ true
   not-struck c h = go (outcome (c .uncommitted)) (outcome (eqb (c .user) u))
     where
       go : Outcome (c .uncommitted) → Outcome (eqb (c .user) u) → not (strikes u c) ≡ true
       go (holds o) (holds t) =
           let a = change-active (n .state .users) c h o in
-          not-both (user-of n u .active) (and-right (within 1 max-users u) (user-of n u .active) (rw (eqb-true (c .user) u t) at a)) idle
+          not-both (is-active (user-of n u)) (and-right (within 1 max-users u) (is-active (user-of n u)) (rw (eqb-true (c .user) u t) at a)) idle
       go (holds o) (fails t) = rw (o, t)
       go (fails o) t = rw o
 
@@ -85,7 +94,7 @@ module _ (capacity : ℕ) (lent : Lent) (n : Nucleus) (j : Journal) (k : Kept ca
 
 -- ---- the rows of 9, and the session that opens
 module _ (lent : Lent) (n : Nucleus) (j : Journal) (r : Request) (p : Passed (r .capacity) lent n j)
-    (least : 1 ≤ r .call .user) (most : r .call .user ≤ max-users) (option : has-option (r .command) (r .call .option) ≡ true) where
+    (least : 1 ≤ r .call .user) (most : r .call .user ≤ max-users) where
   abbrev u : ℕ
   u = r .call .user
 
@@ -98,42 +107,42 @@ module _ (lent : Lent) (n : Nucleus) (j : Journal) (r : Request) (p : Passed (r 
   sound : user-sound (n .state .clock) x ≡ true
   sound = user-known (r .capacity) lent n j k u
 
-  -- a user who is marked is in no transaction
-  marked-idle : x .overdue ≡ true → x .active ≡ false
-  marked-idle m = go (outcome (x .active))
+  -- a user who is overdue is in no transaction
+  overdue-idle : x .overdue ≡ true → is-active x ≡ false
+  overdue-idle m = go (outcome (is-active x))
     where
-      go : Outcome (x .active) → x .active ≡ false
-      go (holds a) = not-both (x .overdue) m (active-sound (n .state .clock) x sound a .unmarked)
+      go : Outcome (is-active x) → is-active x ≡ false
+      go (holds a) = not-both (x .overdue) m (active-sound (n .state .clock) x sound a .not-overdue)
       go (fails a) = a
 
-  passed-like : (z : User) → user-sound (n .state .clock) z ≡ true → z .active ≡ x .active → member-of z ≡ member-of x → is-due (n .state .clock) z ≡ false
+  passed-like : (z : User) → user-sound (n .state .clock) z ≡ true → is-active z ≡ is-active x → member-of z ≡ member-of x → is-due (n .state .clock) z ≡ false
       → Passed (r .capacity) lent (change-user u (λ w. z) n) j
   passed-like z s a m q = record {
     kept = kept-like (r .capacity) lent n j k u least most z s a m;
     rested = rested-set n (p .rested) u z q;
   }
 
-  -- the mark is cleared; for OP and CL the journal backs out whom it has in no transaction
-  served-marked : x .overdue ≡ true → Served lent r j (r .command) (refusal (r .buffer) (change-user u (marked false) n) BackedOut)
-  served-marked m = record { passed = go (one-of (Op ∷ Cl ∷ []) (r .command)); not-early = refl }
+  -- he is overdue no more; for OP and CL the journal backs out whom it has in no transaction
+  served-overdue : x .overdue ≡ true → Served lent r j (r .command) (refusal (r .buffer) (change-user u (with-overdue false) n) BackedOut)
+  served-overdue m = record { passed = go (one-of on-session (r .command)); not-early = refl }
     where
-      cleared : Passed (r .capacity) lent (change-user u (marked false) n) j
+      cleared : Passed (r .capacity) lent (change-user u (with-overdue false) n) j
       cleared =
-          passed-like (marked false x) (sound-idle (n .state .clock) (marked false x) (marked-idle m)) refl refl (idle-quiet n (p .rested) (marked false x) (marked-idle m))
+          passed-like (with-overdue false x) (sound-idle (n .state .clock) (with-overdue false x) (overdue-idle m)) refl refl (idle-quiet n (p .rested) (with-overdue false x) (overdue-idle m))
 
-      go : (b : Bool) → Passed (r .capacity) lent (change-user u (marked false) n) (cond b (struck u j) j)
-      go true = rw (struck-idle (r .capacity) lent n j k u (marked-idle m)) cleared
+      go : (b : Bool) → Passed (r .capacity) lent (change-user u (with-overdue false) n) (cond b (struck u j) j)
+      go true = rw (struck-idle (r .capacity) lent n j k u (overdue-idle m)) cleared
       go false = cleared
 
   -- OP or CL in a transaction
-  served-out : one-of (Op ∷ Cl ∷ []) (r .command) ≡ true → Served lent r j (r .command) (refusal (r .buffer) (backed-out u n) BackedOut)
+  served-out : one-of on-session (r .command) ≡ true → Served lent r j (r .command) (refusal (r .buffer) (backed-out u n) BackedOut)
   served-out e = record { passed = rw e (passed-backed-out (r .capacity) lent n j p r least most); not-early = refl }
 
   -- ---- the session
-  opened-active : opened x .active ≡ x .active
-  opened-active = go (outcome (x .session)) (outcome (x .active))
+  opened-active : is-active (opened x) ≡ is-active x
+  opened-active = go (outcome (x .session)) (outcome (is-active x))
     where
-      go : Outcome (x .session) → Outcome (x .active) → opened x .active ≡ x .active
+      go : Outcome (x .session) → Outcome (is-active x) → is-active (opened x) ≡ is-active x
       go (holds s) a = rw s
       go (fails s) (holds a) = not-both (x .session) (active-sound (n .state .clock) x sound a .session) s
       go (fails s) (fails a) = rw (s, a)
@@ -141,9 +150,9 @@ module _ (lent : Lent) (n : Nucleus) (j : Journal) (r : Request) (p : Passed (r 
   opened-member : member-of (opened x) ≡ member-of x
   opened-member = go (outcome (x .session)) opened-active
     where
-      go : Outcome (x .session) → opened x .active ≡ x .active → member-of (opened x) ≡ member-of x
+      go : Outcome (x .session) → is-active (opened x) ≡ is-active x → member-of (opened x) ≡ member-of x
       go (holds s) a = rw (s, s)
-      go (fails s) a = let idle : false ≡ x .active = rw s at a in rw (s, ← idle)
+      go (fails s) a = let idle : false ≡ is-active x = rw s at a in rw (s, ← idle)
 
   opened-sound : user-sound (n .state .clock) (opened x) ≡ true
   opened-sound = go (outcome (x .session))
@@ -162,38 +171,38 @@ module _ (lent : Lent) (n : Nucleus) (j : Journal) (r : Request) (p : Passed (r 
   abbrev m : Nucleus
   m = change-user u opened n
 
-  passed-session : Passed (r .capacity) lent m j
-  passed-session = passed-like (opened x) opened-sound opened-active opened-member opened-quiet
+  passed-open : Passed (r .capacity) lent m j
+  passed-open = passed-like (opened x) opened-sound opened-active opened-member opened-quiet
 
   opened-own : user-of m u ≡ opened x
   opened-own = user-own (n .state .users) (k .people .user-count) u least most (opened x)
 
-  ready : x .overdue ≡ false → (one-of (Op ∷ Cl ∷ []) (r .command) ≡ true → x .active ≡ false) → Ready r m
-  ready unmarked idle = record {
+  ready : x .overdue ≡ false → (one-of on-session (r .command) ≡ true → is-active x ≡ false) → access-refused (r .command) (r .call) m ≡ false → Ready r m
+  ready not-overdue idle access = record {
     least = least;
     most = most;
     session = rw opened-own (session-open (x .session) refl);
-    unmarked = rw opened-own (mark-clear (x .session) refl);
+    not-overdue = rw opened-own (overdue-clear (x .session) refl);
     idle = λ e. rw opened-own (opened-active ∙ idle e);
-    option = option;
+    access = access;
   }
     where
       session-open : (b : Bool) → x .session ≡ b → opened x .session ≡ true
       session-open true s = rw (s, s)
       session-open false s = rw s
 
-      mark-clear : (b : Bool) → x .session ≡ b → opened x .overdue ≡ false
-      mark-clear true s = rw s unmarked
-      mark-clear false s = rw s
+      overdue-clear : (b : Bool) → x .session ≡ b → opened x .overdue ≡ false
+      overdue-clear true s = rw s not-overdue
+      overdue-clear false s = rw s
 
-  pub served : Served lent r j (r .command) (serve r n)
-  unfolding serve overdue-mark ends-active
-  served = go (outcome (x .overdue)) (outcome (one-of (Op ∷ Cl ∷ []) (r .command) && x .active))
+  pub served : Served lent r j (r .command) (served-by r (admitted-user (r .command) (r .call) n))
+  unfolding admitted-user is-overdue session-in-transaction
+  served = go (outcome (x .overdue)) (outcome (one-of on-session (r .command) && is-active x))
     where
-      go : Outcome (x .overdue) → Outcome (one-of (Op ∷ Cl ∷ []) (r .command) && x .active) → Served lent r j (r .command) (serve r n)
-      go (holds o) e = rw o (served-marked o)
-      go (fails o) (holds e) = rw (o, e) (served-out (and-left (one-of (Op ∷ Cl ∷ []) (r .command)) (x .active) e))
-      go (fails o) (fails e) = rw (o, e) (performed lent m j r passed-session (ready o (λ ends. rw ends at e)))
+      go : Outcome (x .overdue) → Outcome (one-of on-session (r .command) && is-active x) → Served lent r j (r .command) (served-by r (admitted-user (r .command) (r .call) n))
+      go (holds o) e = rw o (served-overdue o)
+      go (fails o) (holds e) = rw (o, e) (served-out (and-left (one-of on-session (r .command)) (is-active x) e))
+      go (fails o) (fails e) = rw (o, e) (served-session lent m j r passed-open (ready o (λ ends. rw ends at e)))
 
 -- ---- a call
 pub record Stepped (capacity : ℕ) (lent : Lent) (call : Call) (format buffer : List ℕ) (j : Journal) (x : Result) : Type 0 where
@@ -216,32 +225,33 @@ module _ (capacity : ℕ) (lent : Lent) (n : Nucleus) (j : Journal) (p : Passed 
   refused-first c early of = record { passed = rw early p; usable = of }
 
   -- past the clock
-  served-known : (c : Command) → command-of (call .command) ≡ some c → has-option c (call .option) ≡ true → within 1 max-users (call .user) ≡ true
-      → Stepped capacity lent call format buffer j (serve (request capacity c call format buffer) (nucleus.clocked (call .clock) n))
+  served-known : (c : Command) → command-of commands (call .command) ≡ some c → within 1 max-users (call .user) ≡ true
+      → Stepped capacity lent call format buffer j (serve (admitted-command (some c) call n) capacity call format buffer)
   unfolding fed
-  served-known c known option user =
-      let r = request capacity c call format buffer in
-      let s = served lent (nucleus.clocked (call .clock) n) (journal.clocked (call .clock) j) r (passed-clock capacity lent (call .clock) n j (p .kept))
-      (within-least 1 max-users (call .user) user) (within-most 1 max-users (call .user) user) option
+  served-known c known user =
+      let s = served lent (clocked (call .clock) n) (log-clock (call .clock) j) (request capacity c call format buffer) (passed-clock capacity lent (call .clock) n j (p .kept))
+      (within-least 1 max-users (call .user) user) (within-most 1 max-users (call .user) user)
       in
-      record { passed = rw (s .not-early, known) (s .passed); usable = early-usable (number (serve r (nucleus.clocked (call .clock) n) .answer .response)) (s .not-early) }
+      record { passed = rw (s .not-early, known) (s .passed); usable = early-usable (number (serve (admitted-command (some c) call n) capacity call format buffer .answer .response)) (s .not-early) }
 
   pub stepped : Stepped capacity lent call format buffer j (step capacity call format buffer n)
-  unfolding step rows-first
+  unfolding step admitted rows-usable rows-understood
   stepped =
       rw (p .kept .sized .valid, long-kept capacity lent n j (p .kept), well-made-kept capacity lent n j (p .kept))
-      (go (command-of (call .command)) refl)
+      (go (command-of commands (call .command)) refl)
     where
       after-first : Option Command → Result
       after-first x =
-          unless (first-cause (row CommandUnknown (not (understood x (call .option))) ∷ row UserUnknown (not (within 1 max-users (call .user))) ∷ [])) (refusal buffer n)
-          (serve-command x capacity call format buffer n)
+          serve
+          (unless-refused (first-cause (row CommandUnknown (not (understood x (call .option))) ∷ row UserUnknown (not (within 1 max-users (call .user))) ∷ [])) n
+          (admitted-command x call n))
+          capacity call format buffer
 
-      go : (x : Option Command) → command-of (call .command) ≡ x → Stepped capacity lent call format buffer j (after-first x)
+      go : (x : Option Command) → command-of commands (call .command) ≡ x → Stepped capacity lent call format buffer j (after-first x)
       go none e = refused-first CommandUnknown refl refl
       go (some c) e = go-on (outcome (has-option c (call .option))) (outcome (within 1 max-users (call .user)))
         where
           go-on : Outcome (has-option c (call .option)) → Outcome (within 1 max-users (call .user)) → Stepped capacity lent call format buffer j (after-first (some c))
           go-on (fails o) u = rw o (refused-first CommandUnknown refl refl)
           go-on (holds o) (fails u) = rw (o, u) (refused-first UserUnknown refl refl)
-          go-on (holds o) (holds u) = rw (o, u) (served-known c e o u)
+          go-on (holds o) (holds u) = rw (o, u) (served-known c e u)

@@ -29,8 +29,8 @@ use Rattle.ground.specs.Keys.{key-file, file-of, known, known-found, known-file
 use Rattle.ground.specs.Store.{fit-width, fit}
 use Rattle.ground.specs.StoreLaws.{known-fit}
 use Rattle.ground.specs.Ground.{uniques, UpdateLaws}
-use Rattle.history.specs.Journal.{Update, replace, erase, add, apply}
-use Rattle.history.specs.Updates.{FileUpdate, suits, judged, updates}
+use Rattle.claim.specs.Journal.{Update, replace, erase, add, apply}
+use Rattle.history.specs.Updates.{FileUpdate, suits, judged-by, updates}
 
 -- ---- lengths
 -- A1 leaves a record's width as it was, N1 and N2 make one of the file's width
@@ -60,7 +60,7 @@ Keeps f j x r = (o : Bytes) × (x ≡ some o) × (field-value f j o ≡ field-va
 
 module _ (d : Definition) (file : ℕ) (s : FileShape (file-of d file)) (j : ℕ) (inside : j < field-count (file-of d file)) where
   -- "A1 the named ones": fields that it does not name are not touched
-  unjudged-kept : (u : Update) (x : Slot) (r : Bytes) → suits d file u x ≡ true → apply (file-of d file) u x ≡ some r → judged d file u j ≡ false → Keeps (file-of d file) j x r
+  unjudged-kept : (u : Update) (x : Slot) (r : Bytes) → suits d file u x ≡ true → apply (file-of d file) u x ≡ some r → judged-by d file u j ≡ false → Keeps (file-of d file) j x r
   unfolding apply
   unjudged-kept (replace format values) none r h e n = not-both false h refl
   unjudged-kept (replace format values) (some o) r h e n =

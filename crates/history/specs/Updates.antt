@@ -14,7 +14,7 @@ use Rattle.transactions.specs.Slots.{Slot}
 use Rattle.transactions.specs.Machine.{Change as MachineChange}
 use Rattle.ground.specs.Keys.{key, key-file, file-of, known}
 use Rattle.ground.specs.Ground.{Updates}
-use Rattle.history.specs.Journal.{Update, replace, erase, add, Change, apply}
+use Rattle.claim.specs.Journal.{Update, replace, erase, add, Change, apply}
 
 -- a change of a record of the file
 pub record FileUpdate : Type 0 where
@@ -31,17 +31,17 @@ suits d file (replace format values) x = has-width (record-length (file-of d fil
 suits d file erase x = true
 suits d file (add format values) x = true
 
-abbrev pub judged : Definition → ℕ → Update → ℕ → Bool
-judged d file (replace format values) k = any (eqb k) (places (file-of d file) format)
-judged d file erase k = true
-judged d file (add format values) k = true
+abbrev pub judged-by : Definition → ℕ → Update → ℕ → Bool
+judged-by d file (replace format values) k = any (eqb k) (places (file-of d file) format)
+judged-by d file erase k = true
+judged-by d file (add format values) k = true
 
 abbrev pub updates : Definition → Updates
 updates d = record {
   Update = FileUpdate;
   apply = λ k c x. apply (file-of d (key-file k)) (c .update) x;
   may = λ c k x. known d k && eqb (key-file k) (c .file) && suits d (c .file) (c .update) x;
-  judges = λ c k. judged d (c .file) (c .update) k;
+  judges = λ c k. judged-by d (c .file) (c .update) k;
 }
 
 -- a change of the journal as the machine has it

@@ -1,1 +1,1 @@
-// No code: the journal of requirement 3 beside the calls of the nucleus, in specs/.
+// No code: the proof of requirement 3, in specs/.

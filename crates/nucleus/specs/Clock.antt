@@ -3,17 +3,12 @@
 use Prim.Native.Nat.{ℕ, zero, suc, _+_, max}
 use mathlib.Core.Bool.{true}
 use Rattle.lists.specs.Tests.{cond}
-use Rattle.layout.specs.Layout.{image-length}
 use Rattle.removal.specs.Removal.{remove-queue, remove-images, remove-count}
 use Rattle.hold.specs.Hold.{restore}
 use Rattle.removal.specs.declared.Removal.{Removal}
 use Rattle.removal.specs.declared.Removal.the-variants.{All}
-use Rattle.nucleus.specs.Users.{is-due, ended, marked}
-use Rattle.nucleus.specs.Nucleus.{Nucleus, max-users, with-clock, with-count, with-state, with-store, user-of, change-user}
-
--- the greatest width: the bytes of an image
-abbrev pub width-of : Nucleus → ℕ
-width-of n = image-length (n .state .definition)
+use Rattle.nucleus.specs.Users.{is-due, ended, with-overdue}
+use Rattle.nucleus.specs.Nucleus.{Nucleus, max-users, with-clock, with-count, with-state, with-store, width-of, user-of, change-user}
 
 -- entries go, with their images
 unfoldable pub removed : Removal → Nucleus → Nucleus
@@ -25,15 +20,15 @@ removed which n = record {
 }
 
 -- "A back-out puts every changed entry's image back, or makes its ISN empty where no record was, and removes all the user's entries"
-abbrev pub restored : ℕ → Nucleus → Nucleus
-restored u n = with-store (restore (n .state .definition) (width-of n) u (n .queue) (n .images) (n .state .count) (n .store)) n
+abbrev pub with-restored : ℕ → Nucleus → Nucleus
+with-restored u n = with-store (restore (n .state .definition) (width-of n) u (n .queue) (n .images) (n .state .count) (n .store)) n
 
 unfoldable pub backed-out : ℕ → Nucleus → Nucleus
-backed-out u n = change-user u ended (removed (All u) (restored u n))
+backed-out u n = change-user u ended (removed (All u) (with-restored u n))
 
 -- one user, where he is due
 abbrev pub timed-out : ℕ → Nucleus → Nucleus
-timed-out u n = cond (is-due (n .state .clock) (user-of n u)) (change-user u (marked true) (backed-out u n)) n
+timed-out u n = cond (is-due (n .state .clock) (user-of n u)) (change-user u (with-overdue true) (backed-out u n)) n
 
 -- the users from one on
 abbrev pub timed-out-from : ℕ → ℕ → Nucleus → Nucleus

@@ -1,4 +1,4 @@
--- The table of commands and the options named for each (document 01, 'One call').
+-- The table of commands, groups of them that rules speak of, and the options named for each (document 01, 'One call').
 use Prim.Native.Nat.{ℕ}
 use mathlib.Core.Bool.{Bool, _&&_, _||_}
 use mathlib.Core.List.{List, [], _∷_, map}
@@ -55,12 +55,54 @@ abbrev pub seek : List ℕ → List Command → Option Command
 seek letters [] = none
 seek letters (c ∷ cs) = cond (eqbs (code c) letters) (some c) (seek letters cs)
 
-unfoldable pub command-of : List ℕ → Option Command
-command-of letters = seek letters commands
+-- among the commands that a function serves
+unfoldable pub command-of : List Command → List ℕ → Option Command
+command-of served letters = seek letters served
 
 -- whether the command is one of those
 abbrev pub one-of : List Command → Command → Bool
 one-of cs c = any (λ d. eqb (place-of d) (place-of c)) cs
+
+-- ---- groups of commands
+-- "HI to N2": about a file
+abbrev pub on-file : List Command
+on-file = Hi ∷ Ri ∷ L1 ∷ L4 ∷ A1 ∷ E1 ∷ N1 ∷ N2 ∷ []
+
+-- about the ISN that the call gives
+abbrev pub at-given-isn : List Command
+at-given-isn = Hi ∷ Ri ∷ L1 ∷ L4 ∷ A1 ∷ E1 ∷ N2 ∷ []
+
+-- that end with the ISN held
+abbrev pub holding : List Command
+holding = Hi ∷ L4 ∷ A1 ∷ E1 ∷ N1 ∷ N2 ∷ []
+
+-- that need a hold of the user's, unless option `H` takes it
+abbrev pub changing-held : List Command
+changing-held = A1 ∷ E1 ∷ []
+
+-- that need a record
+abbrev pub on-record : List Command
+on-record = L1 ∷ L4 ∷ A1 ∷ E1 ∷ []
+
+-- "L1, L4, A1, N1 and N2 read a format buffer"
+abbrev pub naming : List Command
+naming = L1 ∷ L4 ∷ A1 ∷ N1 ∷ N2 ∷ []
+
+-- of these, those that bring values
+abbrev pub bringing-values : List Command
+bringing-values = A1 ∷ N1 ∷ N2 ∷ []
+
+-- of these, those that read values
+abbrev pub reading-values : List Command
+reading-values = L1 ∷ L4 ∷ []
+
+-- that open or close a session
+abbrev pub on-session : List Command
+on-session = Op ∷ Cl ∷ []
+
+-- that an access-only user may call
+abbrev pub serving-access-only : List Command
+serving-access-only = Op ∷ Cl ∷ L1 ∷ Re ∷ []
 
 -- ---- options
 abbrev pub blank : ℕ
@@ -79,6 +121,6 @@ option-A = 65
 unfoldable pub has-option : Command → ℕ → Bool
 has-option c o =
     eqb o blank
-    || (eqb o option-I && one-of (L1 ∷ L4 ∷ []) c)
-    || (eqb o option-H && one-of (A1 ∷ E1 ∷ []) c)
+    || (eqb o option-I && one-of reading-values c)
+    || (eqb o option-H && one-of changing-held c)
     || (eqb o option-A && one-of (Op ∷ []) c)

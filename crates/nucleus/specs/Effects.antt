@@ -8,7 +8,7 @@ use lib.Seq.{sets}
 use Rattle.lists.specs.Tests.{cond}
 use Rattle.elements.specs.Elements.{length-needed}
 use Rattle.fields.specs.Fields.{read-fields}
-use Rattle.store.specs.Store.{record-of, put-record, empty}
+use Rattle.store.specs.Store.{record-of, shown, put-record, empty}
 use Rattle.queue.specs.Queue.{append}
 use Rattle.changes.specs.Changes.{first-change-queue, first-change-images}
 use Rattle.records.specs.declared.Found.{Found}
@@ -20,10 +20,9 @@ use Rattle.removal.specs.declared.Removal.the-variants.{One, Unchanged, All}
 use Rattle.nucleus.specs.Commands.{option-A}
 use Rattle.nucleus.specs.Users.{max-sequence, set-session, closed, counted, started, ended}
 use Rattle.nucleus.specs.Responses.{good}
-use Rattle.nucleus.specs.Nucleus.{Nucleus, Request, Result, data-at, with-data, with-mark, with-count, with-state, with-store, user-of, change-user}
-use Rattle.nucleus.specs.Clock.{width-of, removed, backed-out}
-use Rattle.nucleus.specs.Target.{held-by, store-with, found, file, part, record-at, holder-of, target-isn}
-use Rattle.nucleus.specs.Rows.{new-record}
+use Rattle.nucleus.specs.Nucleus.{Nucleus, Request, Result, result, data-at, with-data, with-last-assigned, with-count, with-state, with-store, width-of, user-of, change-user}
+use Rattle.nucleus.specs.Clock.{removed, backed-out}
+use Rattle.nucleus.specs.Target.{is-holder, store-with, file-place, file, part, record-at, holder-of, target-isn, new-record}
 use Rattle.nucleus.specs.declared.Answer.{Answer}
 use Rattle.nucleus.specs.declared.Command.{Command}
 use Rattle.nucleus.specs.declared.Command.the-variants.{Hi, Ri, L1, L4, A1, E1, N1, N2, Et, Bt, Re, Op, Cl}
@@ -47,7 +46,7 @@ module _ (r : Request) where
 
   -- a new entry, unless the caller has one; "A transaction opens at the user's first new hold"
   unfoldable pub held : ℕ → Nucleus → Nucleus
-  held isn n = cond (held-by user (holder-of r n isn)) n (change-user user (started (n .state .clock)) (with-entry isn n))
+  held isn n = cond (is-holder user (holder-of r n isn)) n (change-user user (started (n .state .clock)) (with-entry isn n))
 
   -- ---- changing
   -- "Only the first change of an entry keeps an image": of the entry that a lookup found
@@ -66,7 +65,7 @@ module _ (r : Request) where
 
   -- the file's part of the store, changed
   abbrev pub with-part-of : List ℕ → Nucleus → Nucleus
-  with-part-of p n = with-store (store-with (n .state .definition) (found r n) (n .store) p) n
+  with-part-of p n = with-store (store-with (n .state .definition) (file-place r n) (n .store) p) n
 
   -- A1, N1, N2
   unfoldable pub written : ℕ → Nucleus → Nucleus
@@ -78,7 +77,7 @@ module _ (r : Request) where
 
   -- "the one that N1 last gave in that file"
   abbrev pub with-last : Found → ℕ → Nucleus → Nucleus
-  with-last (At i) isn n = with-state (with-mark i isn (n .state)) n
+  with-last (At i) isn n = with-state (with-last-assigned i isn (n .state)) n
   with-last Nowhere isn n = n
 
   -- ---- ET data
@@ -98,8 +97,9 @@ module _ (r : Request) where
   next-sequence n = min (user-of n user .sequence + 1) max-sequence
 
   -- ---- results
-  abbrev pub result : Answer → Nucleus → Result
-  result a n = record { answer = a; nucleus = n; buffer = r .buffer }
+  -- a command that writes nothing into the record buffer
+  abbrev pub leaving : Answer → Nucleus → Result
+  leaving a n = result a n (r .buffer)
 
   -- entries that went
   abbrev pub gone : Nucleus → Nucleus → ℕ
@@ -107,11 +107,9 @@ module _ (r : Request) where
 
   -- "Quantity: bytes written, at the front of the record buffer"
   abbrev pub read-at : ℕ → Nucleus → Nucleus → Result
-  read-at isn n m = record {
-    answer = good isn (length-needed (file r n) (r .format)) 0;
-    nucleus = m;
-    buffer = read-fields (file r n) (r .format) (record-of (file r n) (part r n) isn) (r .buffer);
-  }
+  read-at isn n m =
+      result (good isn (length-needed (file r n) (r .format)) 0) m
+      (read-fields (file r n) (r .format) (shown (file r n) (part r n) isn) (r .buffer))
 
   -- "RI drops the user's unchanged entry; ISN 0 drops all of his unchanged ones, in every file, and skips the changed"
   abbrev pub released : Nucleus → Nucleus
@@ -122,23 +120,19 @@ module _ (r : Request) where
 
   -- what a command does, where the ISN that it is about is `isn`
   unfoldable pub effect-at : ℕ → Command → Nucleus → Result
-  effect-at isn Hi n = result (good isn 0 0) (held isn n)
-  effect-at isn Ri n = result (good isn (gone n (released n)) 0) (released n)
+  effect-at isn Hi n = leaving (good isn 0 0) (held isn n)
+  effect-at isn Ri n = leaving (good isn (gone n (released n)) 0) (released n)
   effect-at isn L1 n = read-at isn n n
   effect-at isn L4 n = read-at isn n (held isn n)
-  effect-at isn A1 n = result (good isn 0 0) (written isn n)
-  effect-at isn E1 n = result (good isn 0 0) (erased isn n)
-  effect-at isn N1 n = result (good isn 0 0) (with-last (found r n) isn (written isn n))
-  effect-at isn N2 n = result (good isn 0 0) (written isn n)
-  effect-at isn Et n = result (good 0 (gone n (ended-for n)) (next-sequence n)) (ended-for n)
-  effect-at isn Bt n = result (good 0 (gone n (backed-out user n)) 0) (backed-out user n)
-  effect-at isn Re n = record {
-    answer = good 0 (data-at (n .state) user .length) 0;
-    nucleus = n;
-    buffer = sets (r .buffer) 0 (data-bytes n);
-  }
-  effect-at isn Op n = result (good 0 0 0) (change-user user (set-session (r .call .isn) (r .call .limit) (eqb (r .call .option) option-A)) n)
-  effect-at isn Cl n = result (good 0 0 (user-of n user .sequence)) (change-user user closed n)
+  effect-at isn A1 n = leaving (good isn 0 0) (written isn n)
+  effect-at isn E1 n = leaving (good isn 0 0) (erased isn n)
+  effect-at isn N1 n = leaving (good isn 0 0) (with-last (file-place r n) isn (written isn n))
+  effect-at isn N2 n = leaving (good isn 0 0) (written isn n)
+  effect-at isn Et n = leaving (good 0 (gone n (ended-for n)) (next-sequence n)) (ended-for n)
+  effect-at isn Bt n = leaving (good 0 (gone n (backed-out user n)) 0) (backed-out user n)
+  effect-at isn Re n = result (good 0 (data-at (n .state) user .length) 0) n (sets (r .buffer) 0 (data-bytes n))
+  effect-at isn Op n = leaving (good 0 0 0) (change-user user (set-session (r .call .isn) (r .call .limit) (eqb (r .call .option) option-A)) n)
+  effect-at isn Cl n = leaving (good 0 0 (user-of n user .sequence)) (change-user user closed n)
 
   abbrev pub effect : Nucleus → Result
   effect n = effect-at (target-isn r n) (r .command) n

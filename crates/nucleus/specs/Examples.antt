@@ -1,14 +1,16 @@
 -- Document 01, 'Marked for proof': rows of a table that the definitions themselves give, checked by one law. Behind the marked ones stand rows
--- for 'Errors a good builder makes'.
+-- for 'Errors a good builder makes' and for other rules that a wrong definition was seen to break unnoticed.
 -- Assumes nothing.
 use Prim.Native.Nat.{ℕ, _*_}
 use mathlib.Core.Path.{_≡_, refl}
-use mathlib.Core.List.{List, [], _∷_, map}
+use mathlib.Core.Bool.{Bool, true, false}
+use mathlib.Core.List.{List, [], _∷_, _++_, map}
 use mathlib.Core.Option.{some}
 use Prim.Native.String.{String}
 use lib.ListN.{replicate}
 use Rattle.lists.specs.Folds.{Each}
 use Rattle.lists.specs.Numbers.{numbers}
+use Rattle.lists.specs.Sift.{sift}
 use Rattle.definition.specs.declared.Format.the-variants.{Packed}
 use Rattle.records.specs.Records.{record-length, field-offset}
 use Rattle.layout.specs.Layout.{file-offset, store-size, image-length, place}
@@ -21,9 +23,10 @@ use Rattle.digits.specs.Digits.{allowed}
 use Rattle.elements.specs.Elements.{field-named, format-valid, element, places, named-twice, length-needed, needed-within}
 use Rattle.fields.specs.Fields.{fits, read-fields, write-fields, values-allowed}
 use Rattle.nulls.specs.Nulls.{null-record}
-use Rattle.store.specs.Store.{slot-fits, has-record, get, put-record, empty, fresh, file-part, with-part}
+use Rattle.store.specs.Store.{slot-fits, has-record, get, shown, put-record, empty, fresh, file-part, with-part}
 use Rattle.search.specs.Search.{lowest, elsewhere}
 use Rattle.entries.specs.Entries.{pack-of, unpack-of, entries}
+use Rattle.entries.specs.declared.Entry.{Entry}
 use Rattle.queue.specs.Queue.{holder, held-by, append}
 use Rattle.changes.specs.Changes.{change, keep-image, settled, first-change-queue, first-change-images}
 use Rattle.repeats.specs.Repeats.{repeated}
@@ -32,31 +35,26 @@ use Rattle.images.specs.Images.{image-has}
 use Rattle.removal.specs.Removal.{remove-queue, remove-images, remove-count}
 use Rattle.hold.specs.Hold.{put-back-in, put-back, restore}
 use Rattle.nucleus.specs.Text.{text}
-use Rattle.nucleus.specs.Commands.{commands, place-of, code, command-of, has-option, blank, option-H}
-use Rattle.nucleus.specs.Nucleus.{Nucleus}
+use Rattle.nucleus.specs.Commands.{commands, place-of, code, command-of, has-option, blank, option-I, option-H, option-A}
+use Rattle.nucleus.specs.Users.{opening, counted, with-transaction}
+use Rattle.nucleus.specs.Nucleus.{Nucleus, nucleus, Given, given, with-count, with-store, change-user}
 use Rattle.nucleus.specs.WellMade.{too-short, well-made}
 use Rattle.nucleus.specs.Clock.{removed, backed-out, clocked}
-use Rattle.nucleus.specs.Target.{target}
-use Rattle.nucleus.specs.Rows.{rows-first, overdue-mark, ends-active, access-refused, file-unknown, isn-invalid, format-refused, field-twice, record-length-refused, value-refused, none-found, held-elsewhere, presence-refused, not-held, release-refused, file-full, limit-reached, queue-full, new-record, value-taken}
+use Rattle.nucleus.specs.Target.{target, new-record}
+use Rattle.nucleus.specs.Rows.{rows-usable, rows-understood, is-overdue, session-in-transaction, access-refused, file-unknown, isn-invalid, format-refused, field-twice, record-length-refused, value-refused, none-found, held-elsewhere, presence-refused, not-held, release-refused, file-full, limit-reached, queue-full, value-taken}
 use Rattle.nucleus.specs.Effects.{held, imaged, written, erased, effect-at}
-use Rattle.nucleus.specs.Step.{perform, serve, step, set-up}
-use Rattle.nucleus.specs.Line.{hexadecimal, line}
-use Rattle.nucleus.specs.declared.Call.{Call}
+use Rattle.nucleus.specs.Step.{admitted-session, admitted-user, admitted, perform, step, set-up}
+use Rattle.nucleus.specs.Line.{hexadecimal, decimal, line-of, line}
 
 -- ---- the table of commands: the places are those of the list, and each code is found again
 placed : map place-of commands ≡ numbers 13 1
 placed = refl
 
-decoded : map (λ c. command-of (code c)) commands ≡ map some commands
+decoded : map (λ c. command-of commands (code c)) commands ≡ map some commands
 unfolding command-of
 decoded = refl
 
 -- ---- a list of calls, each with its buffers, and the lines that it prints
-record Given : Type 0 where
-  call : Call
-  format : List ℕ
-  buffer : List ℕ
-
 abbrev capacity : ℕ
 capacity = 64
 
@@ -64,17 +62,17 @@ abbrev lines : List Given → Nucleus → List (List ℕ)
 lines [] n = []
 lines (g ∷ gs) n = let r = step capacity (g .call) (g .format) (g .buffer) n in line (g .call) r ∷ lines gs (r .nucleus)
 
--- on a fresh nucleus of a table whose store takes at most 16 bytes and whose records at most 3
+-- on a fresh nucleus of a table whose store takes at most 16 bytes and whose records at most 3, and on what somebody made of it
+abbrev printed-on : (Nucleus → Nucleus) → List ℕ → List Given → List (List ℕ)
+printed-on altered table calls = lines calls (altered (set-up capacity (replicate 16 0) (replicate capacity 0) (replicate (capacity * 3) 0) table .nucleus))
+
 abbrev printed : List ℕ → List Given → List (List ℕ)
-printed table calls = lines calls (set-up capacity (replicate 16 0) (replicate capacity 0) (replicate (capacity * 3) 0) table .nucleus)
+printed table calls = printed-on (λ n. n) table calls
 
 -- "all clocks 0, file 1, option blank, .. all else 0 or empty, unless named"
-abbrev given : String → ℕ → ℕ → ℕ → ℕ → List ℕ → List ℕ → Given
-given command option user isn clock format buffer = record {
-  call = record { command = text command; option = option; user = user; file = 1; isn = isn; limit = 0; clock = clock };
-  format = format;
-  buffer = buffer;
-}
+abbrev sent : String → ℕ → ℕ → ℕ → ℕ → List ℕ → List ℕ → Given
+sent command option user isn clock format buffer =
+    given (record { command = text command; option = option; user = user; file = 1; isn = isn; limit = 0; clock = clock }) format buffer
 
 -- "Table X'01010003 0252430141 55 0248480241 20 00' (RC unique, HH)"
 house-table : List ℕ
@@ -82,13 +80,13 @@ house-table = 0x01 ∷ 0x01 ∷ 0x00 ∷ 0x03 ∷ 0x02 ∷ 0x52 ∷ 0x43 ∷ 0x0
 
 house-calls : List Given
 house-calls =
-    given "N1" blank 1 0 0 (text "RC,HH.") (text "2AB") ∷
-    given "ET" blank 1 0 0 [] [] ∷
-    given "A1" option-H 1 1 0 (text "RC.") (text "3") ∷
-    given "N1" blank 2 0 0 (text "RC,HH.") (text "2CD") ∷
-    given "L4" blank 2 1 0 (text "RC.") (0 ∷ []) ∷
-    given "BT" blank 1 0 0 [] [] ∷
-    given "L1" blank 2 1 0 (text "RC,HH.") (0 ∷ 0 ∷ 0 ∷ []) ∷ []
+    sent "N1" blank 1 0 0 (text "RC,HH.") (text "2AB") ∷
+    sent "ET" blank 1 0 0 [] [] ∷
+    sent "A1" option-H 1 1 0 (text "RC.") (text "3") ∷
+    sent "N1" blank 2 0 0 (text "RC,HH.") (text "2CD") ∷
+    sent "L4" blank 2 1 0 (text "RC.") (0 ∷ []) ∷
+    sent "BT" blank 1 0 0 [] [] ∷
+    sent "L1" blank 2 1 0 (text "RC,HH.") (0 ∷ 0 ∷ 0 ∷ []) ∷ []
 
 -- the same table with highest ISN 1
 one-table : List ℕ
@@ -101,94 +99,154 @@ packed-table = 0x01 ∷ 0x01 ∷ 0x00 ∷ 0x03 ∷ 0x02 ∷ 0x50 ∷ 0x41 ∷ 0x
 -- user 1 empties a record, and user 2 asks for its unique value before and after the ET of user 1
 given-up-calls : List Given
 given-up-calls =
-    given "N1" blank 1 0 0 (text "RC,HH.") (text "2AB") ∷
-    given "ET" blank 1 0 0 [] [] ∷
-    given "E1" option-H 1 1 0 [] [] ∷
-    given "N1" blank 2 0 0 (text "RC.") (text "2") ∷
-    given "ET" blank 1 0 0 [] [] ∷
-    given "N1" blank 2 0 0 (text "RC.") (text "2") ∷ []
+    sent "N1" blank 1 0 0 (text "RC,HH.") (text "2AB") ∷
+    sent "ET" blank 1 0 0 [] [] ∷
+    sent "E1" option-H 1 1 0 [] [] ∷
+    sent "N1" blank 2 0 0 (text "RC.") (text "2") ∷
+    sent "ET" blank 1 0 0 [] [] ∷
+    sent "N1" blank 2 0 0 (text "RC.") (text "2") ∷ []
 
 -- two changes of one entry, and a back-out
 changed-twice-calls : List Given
 changed-twice-calls =
-    given "N1" blank 1 0 0 (text "RC,HH.") (text "2AB") ∷
-    given "ET" blank 1 0 0 [] [] ∷
-    given "A1" option-H 1 1 0 (text "RC.") (text "3") ∷
-    given "A1" blank 1 1 0 (text "HH.") (text "CD") ∷
-    given "BT" blank 1 0 0 [] [] ∷
-    given "L1" blank 1 1 0 (text "RC,HH.") (text "...") ∷ []
+    sent "N1" blank 1 0 0 (text "RC,HH.") (text "2AB") ∷
+    sent "ET" blank 1 0 0 [] [] ∷
+    sent "A1" option-H 1 1 0 (text "RC.") (text "3") ∷
+    sent "A1" blank 1 1 0 (text "HH.") (text "CD") ∷
+    sent "BT" blank 1 0 0 [] [] ∷
+    sent "L1" blank 1 1 0 (text "RC,HH.") (text "...") ∷ []
 
 -- N1 by the holder of an ISN that he emptied, and by another user before and after his ET
 emptied-calls : List Given
 emptied-calls =
-    given "N1" blank 1 0 0 (text "RC.") (text "2") ∷
-    given "ET" blank 1 0 0 [] [] ∷
-    given "E1" option-H 1 1 0 [] [] ∷
-    given "N1" blank 1 0 0 (text "RC.") (text "3") ∷
-    given "N1" blank 2 0 0 (text "RC.") (text "3") ∷
-    given "ET" blank 1 0 0 [] [] ∷
-    given "N1" blank 2 0 0 (text "RC.") (text "3") ∷ []
+    sent "N1" blank 1 0 0 (text "RC.") (text "2") ∷
+    sent "ET" blank 1 0 0 [] [] ∷
+    sent "E1" option-H 1 1 0 [] [] ∷
+    sent "N1" blank 1 0 0 (text "RC.") (text "3") ∷
+    sent "N1" blank 2 0 0 (text "RC.") (text "3") ∷
+    sent "ET" blank 1 0 0 [] [] ∷
+    sent "N1" blank 2 0 0 (text "RC.") (text "3") ∷ []
 
 -- 1 with sign C, with F, and with D; 0 with D and with C
 packed-calls : List Given
 packed-calls =
-    given "N1" blank 1 0 0 (text "PA.") (0x00 ∷ 0x1C ∷ []) ∷
-    given "N1" blank 1 0 0 (text "PA.") (0x00 ∷ 0x1F ∷ []) ∷
-    given "N1" blank 1 0 0 (text "PA.") (0x00 ∷ 0x1D ∷ []) ∷
-    given "N1" blank 1 0 0 (text "PA.") (0x00 ∷ 0x0D ∷ []) ∷
-    given "A1" blank 1 1 0 (text "PA.") (0x00 ∷ 0x0C ∷ []) ∷ []
+    sent "N1" blank 1 0 0 (text "PA.") (0x00 ∷ 0x1C ∷ []) ∷
+    sent "N1" blank 1 0 0 (text "PA.") (0x00 ∷ 0x1F ∷ []) ∷
+    sent "N1" blank 1 0 0 (text "PA.") (0x00 ∷ 0x1D ∷ []) ∷
+    sent "N1" blank 1 0 0 (text "PA.") (0x00 ∷ 0x0D ∷ []) ∷
+    sent "A1" blank 1 1 0 (text "PA.") (0x00 ∷ 0x0C ∷ []) ∷ []
+
+-- entries dropped one by one and together, an option that is not named, 41 before 44, and the bytes of L4 and RE
+assorted-calls : List Given
+assorted-calls =
+    sent "HI" blank 1 1 0 [] [] ∷
+    sent "HI" blank 1 2 0 [] [] ∷
+    sent "RI" blank 1 1 0 [] [] ∷
+    sent "RI" blank 1 0 0 [] [] ∷
+    sent "HI" option-I 1 1 0 [] [] ∷
+    sent "N1" blank 1 0 0 (text "RC,RC,ZZ.") (text "22") ∷
+    sent "N1" blank 1 0 0 (text "RC,HH.") (text "2AB") ∷
+    sent "L4" blank 1 1 0 (text "HH.") (0 ∷ 0 ∷ []) ∷
+    sent "ET" blank 1 0 0 [] (text "OK") ∷
+    sent "RE" blank 1 0 0 [] (0 ∷ 0 ∷ []) ∷ []
+
+-- ---- states that nobody set up
+-- user 1 has counted so many transactions
+abbrev counted-to : ℕ → Nucleus → Nucleus
+counted-to sequence n = change-user 1 (λ u. counted sequence opening) n
+
+-- records 1 and 2 have one unique value
+doubled-store : List ℕ
+doubled-store = 1 ∷ text "2AB" ++ 1 ∷ text "2CD" ++ replicate 8 0
+
+-- ISN 1 is held by a user; user 1 is in a transaction, or not
+abbrev held-entry : ℕ → Entry
+held-entry user = record { user = user; file = 1; isn = 1; changed = false; existed = false }
+
+abbrev with-held : ℕ → Bool → Nucleus → Nucleus
+with-held user active n =
+    let m = change-user 1 (λ u. with-transaction (record { active = active; begun = 0 }) opening) n in
+    nucleus (with-count 1 (m .state)) (m .store) (append (m .queue) 0 (held-entry user)) (m .images)
 
 -- ---- the rows
 record Row : Type 0 where
-  given-by : List (List ℕ)
-  marked : List (List ℕ)
+  computed : List (List ℕ)
+  expected : List (List ℕ)
 
 rows : List Row
 rows =
     -- "the seven lines above"
     record {
-      given-by = printed house-table house-calls;
-      marked = text "0 1 0 0" ∷ text "0 0 1 1" ∷ text "0 1 0 0" ∷ text "198 0 0 0" ∷ text "145 0 0 0" ∷ text "0 0 1 0" ∷ text "0 1 3 0 324142" ∷ [];
+      computed = printed house-table house-calls;
+      expected = text "0 1 0 0" ∷ text "0 0 1 1" ∷ text "0 1 0 0" ∷ text "198 0 0 0" ∷ text "145 0 0 0" ∷ text "0 0 1 0" ∷ text "0 1 3 0 324142" ∷ [];
     } ∷
     -- "X'00500C' stored X'00500F'; X'00000D' stored X'00000F'"
-    record { given-by = hexadecimal (stored Packed (0x00 ∷ 0x50 ∷ 0x0C ∷ [])) ∷ []; marked = text "00500F" ∷ [] } ∷
-    record { given-by = hexadecimal (stored Packed (0x00 ∷ 0x00 ∷ 0x0D ∷ [])) ∷ []; marked = text "00000F" ∷ [] } ∷
+    record { computed = hexadecimal (stored Packed (0x00 ∷ 0x50 ∷ 0x0C ∷ [])) ∷ []; expected = text "00500F" ∷ [] } ∷
+    record { computed = hexadecimal (stored Packed (0x00 ∷ 0x00 ∷ 0x0D ∷ [])) ∷ []; expected = text "00000F" ∷ [] } ∷
     -- "time 900 after the start not overdue, 901 overdue": ET at 900 has the entry, ET at 901 finds its user backed out
     record {
-      given-by = printed house-table (given "HI" blank 1 1 7 [] [] ∷ given "ET" blank 1 0 907 [] [] ∷ []);
-      marked = text "0 1 0 0" ∷ text "0 0 1 1" ∷ [];
+      computed = printed house-table (sent "HI" blank 1 1 7 [] [] ∷ sent "ET" blank 1 0 907 [] [] ∷ []);
+      expected = text "0 1 0 0" ∷ text "0 0 1 1" ∷ [];
     } ∷
     record {
-      given-by = printed house-table (given "HI" blank 1 1 7 [] [] ∷ given "ET" blank 1 0 908 [] [] ∷ []);
-      marked = text "0 1 0 0" ∷ text "9 0 0 0" ∷ [];
+      computed = printed house-table (sent "HI" blank 1 1 7 [] [] ∷ sent "ET" blank 1 0 908 [] [] ∷ []);
+      expected = text "0 1 0 0" ∷ text "9 0 0 0" ∷ [];
     } ∷
     -- "N1 with highest ISN 1 held by HI, 75"
     record {
-      given-by = printed one-table (given "HI" blank 1 1 0 [] [] ∷ given "N1" blank 1 0 0 (text "RC,HH.") (text "2AB") ∷ []);
-      marked = text "0 1 0 0" ∷ text "75 0 0 0" ∷ [];
+      computed = printed one-table (sent "HI" blank 1 1 0 [] [] ∷ sent "N1" blank 1 0 0 (text "RC,HH.") (text "2AB") ∷ []);
+      expected = text "0 1 0 0" ∷ text "75 0 0 0" ∷ [];
     } ∷
     -- "Freeing a given-up unique value before ET"
     record {
-      given-by = printed house-table given-up-calls;
-      marked = text "0 1 0 0" ∷ text "0 0 1 1" ∷ text "0 1 0 0" ∷ text "198 0 0 0" ∷ text "0 0 1 2" ∷ text "0 2 0 0" ∷ [];
+      computed = printed house-table given-up-calls;
+      expected = text "0 1 0 0" ∷ text "0 0 1 1" ∷ text "0 1 0 0" ∷ text "198 0 0 0" ∷ text "0 0 1 2" ∷ text "0 2 0 0" ∷ [];
     } ∷
     -- "Renewing an image at the second change": the back-out brings back what the first change found
     record {
-      given-by = printed house-table changed-twice-calls;
-      marked = text "0 1 0 0" ∷ text "0 0 1 1" ∷ text "0 1 0 0" ∷ text "0 1 0 0" ∷ text "0 0 1 0" ∷ text "0 1 3 0 324142" ∷ [];
+      computed = printed house-table changed-twice-calls;
+      expected = text "0 1 0 0" ∷ text "0 0 1 1" ∷ text "0 1 0 0" ∷ text "0 1 0 0" ∷ text "0 0 1 0" ∷ text "0 1 3 0 324142" ∷ [];
     } ∷
     -- "Giving N1 an ISN that its holder has just emptied"
     record {
-      given-by = printed one-table emptied-calls;
-      marked = text "0 1 0 0" ∷ text "0 0 1 1" ∷ text "0 1 0 0" ∷ text "75 0 0 0" ∷ text "75 0 0 0" ∷ text "0 0 1 2" ∷ text "0 1 0 0" ∷ [];
+      computed = printed one-table emptied-calls;
+      expected = text "0 1 0 0" ∷ text "0 0 1 1" ∷ text "0 1 0 0" ∷ text "75 0 0 0" ∷ text "75 0 0 0" ∷ text "0 0 1 2" ∷ text "0 1 0 0" ∷ [];
     } ∷
     -- "Judging uniqueness before P is put in stored form"
     record {
-      given-by = printed packed-table packed-calls;
-      marked = text "0 1 0 0" ∷ text "198 0 0 0" ∷ text "0 2 0 0" ∷ text "0 3 0 0" ∷ text "198 0 0 0" ∷ [];
-    } ∷ []
+      computed = printed packed-table packed-calls;
+      expected = text "0 1 0 0" ∷ text "198 0 0 0" ∷ text "0 2 0 0" ∷ text "0 3 0 0" ∷ text "198 0 0 0" ∷ [];
+    } ∷
+    -- "RI drops the user's unchanged entry; ISN 0 drops all of his unchanged ones"; "Quantity: entries dropped", "bytes written"
+    record {
+      computed = printed house-table assorted-calls;
+      expected =
+          text "0 1 0 0" ∷ text "0 2 0 0" ∷ text "0 1 1 0" ∷ text "0 0 1 0" ∷ text "22 0 0 0" ∷ text "41 0 0 0" ∷ text "0 1 0 0" ∷ text "0 1 2 0 4142" ∷ text "0 0 1 1" ∷ text "0 0 2 0 4F4B" ∷ [];
+    } ∷
+    -- "it stops at 4294967295"
+    record {
+      computed = printed-on (counted-to 4294967294) house-table (sent "ET" blank 1 0 0 [] [] ∷ sent "ET" blank 1 0 0 [] [] ∷ []);
+      expected = text "0 0 0 4294967295" ∷ text "0 0 0 4294967295" ∷ [];
+    } ∷
+    -- "N1 and N2 judge every unique field, A1 the named ones"
+    record {
+      computed =
+          printed-on (with-store doubled-store) house-table (sent "A1" option-H 1 1 0 (text "HH.") (text "EF") ∷ sent "A1" option-H 1 1 0 (text "RC.") (text "2") ∷ []);
+      expected = text "0 1 0 0" ∷ text "198 0 0 0" ∷ [];
+    } ∷
+    -- "each within its file and of a user in a transaction"
+    record { computed = printed-on (with-held 1 true) house-table (sent "RI" blank 1 1 0 [] [] ∷ []); expected = text "0 1 1 0" ∷ [] } ∷
+    record { computed = printed-on (with-held 1 false) house-table (sent "RI" blank 1 1 0 [] [] ∷ []); expected = text "12 0 0 0" ∷ [] } ∷
+    record { computed = printed-on (with-held 0 true) house-table (sent "RI" blank 1 1 0 [] [] ∷ []); expected = text "12 0 0 0" ∷ [] } ∷ []
+
+-- ---- which of the 256 option bytes are named for each command
+named-options : map (λ c. sift (has-option c) (numbers 256 0)) commands
+    ≡ (blank ∷ []) ∷ (blank ∷ []) ∷ (blank ∷ option-I ∷ []) ∷ (blank ∷ option-I ∷ []) ∷ (blank ∷ option-H ∷ []) ∷ (blank ∷ option-H ∷ [])
+    ∷ (blank ∷ []) ∷ (blank ∷ []) ∷ (blank ∷ []) ∷ (blank ∷ []) ∷ (blank ∷ []) ∷ (blank ∷ option-A ∷ []) ∷ (blank ∷ []) ∷ []
+unfolding has-option
+named-options = refl
 
 -- a `refl` for each row: one for all rows computes several times as long
-given-as-marked : Each (λ r. r .given-by ≡ r .marked) rows
-unfolding house-table house-calls one-table packed-table given-up-calls changed-twice-calls emptied-calls packed-calls rows record-length field-offset file-offset store-size image-length place valid file-valid field-valid name-valid format-of option-of file-item field-item item-of read-from read-table stored below-zero allowed null-value field-named format-valid element places named-twice length-needed needed-within fits read-fields write-fields values-allowed null-record slot-fits has-record get lowest elsewhere put-record empty fresh file-part with-part pack-of unpack-of entries holder held-by repeated append change closed remove-queue remove-images remove-count image-has keep-image settled first-change-queue first-change-images put-back-in put-back restore command-of has-option too-short well-made removed backed-out clocked target rows-first overdue-mark ends-active access-refused file-unknown isn-invalid format-refused field-twice record-length-refused value-refused none-found held-elsewhere presence-refused not-held release-refused file-full limit-reached queue-full new-record value-taken held imaged written erased effect-at perform serve step set-up line
-given-as-marked = (refl, (refl, (refl, (refl, (refl, (refl, (refl, (refl, (refl, (refl, tt))))))))))
+computed-as-expected : Each (λ r. r .computed ≡ r .expected) rows
+unfolding assorted-calls doubled-store house-table house-calls one-table packed-table given-up-calls changed-twice-calls emptied-calls packed-calls rows record-length field-offset file-offset store-size image-length place valid file-valid field-valid name-valid format-of option-of file-item field-item item-of read-from read-table stored below-zero allowed null-value field-named format-valid element places named-twice length-needed needed-within fits read-fields write-fields values-allowed null-record slot-fits has-record get shown lowest elsewhere put-record empty fresh file-part with-part pack-of unpack-of entries holder held-by repeated append change closed remove-queue remove-images remove-count image-has keep-image settled first-change-queue first-change-images put-back-in put-back restore command-of has-option too-short well-made removed backed-out clocked target rows-usable rows-understood is-overdue session-in-transaction access-refused file-unknown isn-invalid format-refused field-twice record-length-refused value-refused none-found held-elsewhere presence-refused not-held release-refused file-full limit-reached queue-full new-record value-taken held imaged written erased effect-at admitted-session admitted-user admitted perform step set-up decimal line-of
+computed-as-expected = (refl, (refl, (refl, (refl, (refl, (refl, (refl, (refl, (refl, (refl, (refl, (refl, (refl, (refl, (refl, (refl, tt))))))))))))))))

@@ -7,10 +7,11 @@ use mathlib.Core.Option.{Option, none, some}
 use lib.Dec.{eqb, ltb}
 use lib.ListN.{take}
 use Rattle.lists.specs.Tests.{cond}
-use Rattle.nucleus.specs.Commands.{command-of, one-of}
+use Rattle.nucleus.specs.Commands.{commands, command-of, one-of}
 use Rattle.nucleus.specs.Responses.{number}
 use Rattle.nucleus.specs.Nucleus.{Result}
 use Rattle.nucleus.specs.declared.Call.{Call}
+use Rattle.nucleus.specs.declared.Answer.{Answer}
 use Rattle.nucleus.specs.declared.Command.{Command}
 use Rattle.nucleus.specs.declared.Command.the-variants.{L1, L4, Re}
 
@@ -24,7 +25,7 @@ decimal-within zero n = digit n ∷ []
 decimal-within (suc more) n = cond (ltb n 10) (digit n ∷ []) (decimal-within more (n / 10) ++ (digit (n % 10) ∷ []))
 
 -- of a number below 10 to the 20th
-abbrev pub decimal : ℕ → List ℕ
+unfoldable pub decimal : ℕ → List ℕ
 decimal n = decimal-within 19 n
 
 abbrev pub hexadecimal : List ℕ → List ℕ
@@ -35,12 +36,17 @@ abbrev pub shows : Option Command → Bool
 shows none = false
 shows (some c) = one-of (L1 ∷ L4 ∷ Re ∷ []) c
 
--- the bytes that a reading wrote, behind a blank
-abbrev pub bytes-part : Call → Result → List ℕ
-bytes-part call r =
-    cond (shows (command-of (call .command)) && not (eqb (r .answer .quantity) 0)) (32 ∷ hexadecimal (take (r .answer .quantity) (r .buffer))) []
+-- "response, ISN, quantity, sequence"
+abbrev pub numbers-part : Answer → List ℕ
+numbers-part a = decimal (number (a .response)) ++ 32 ∷ decimal (a .isn) ++ 32 ∷ decimal (a .quantity) ++ 32 ∷ decimal (a .sequence)
 
-unfoldable pub line : Call → Result → List ℕ
-line call r =
-    decimal (number (r .answer .response)) ++ 32 ∷ decimal (r .answer .isn) ++ 32 ∷ decimal (r .answer .quantity)
-    ++ 32 ∷ decimal (r .answer .sequence) ++ bytes-part call r
+-- the bytes that a reading wrote stand behind them
+abbrev pub shows-bytes : Call → Answer → Bool
+shows-bytes call a = shows (command-of commands (call .command)) && not (eqb (a .quantity) 0)
+
+-- by what a call answered, and its record buffer
+unfoldable pub line-of : Call → Answer → List ℕ → List ℕ
+line-of call a buffer = numbers-part a ++ cond (shows-bytes call a) (32 ∷ hexadecimal (take (a .quantity) buffer)) []
+
+abbrev pub line : Call → Result → List ℕ
+line call r = line-of call (r .answer) (r .buffer)

@@ -1,6 +1,7 @@
 -- The nucleus with all that it is lent, and the parts of it that a call reads and changes.
 use Prim.Native.Nat.{ℕ, _-_}
 use mathlib.Core.List.{List, []}
+use Rattle.layout.specs.Layout.{image-length}
 use lib.ListN.{getD, set, replicate}
 use Rattle.definition.specs.Table.{max-files}
 use Rattle.entries.specs.Entries.{entries}
@@ -21,6 +22,18 @@ pub record Nucleus : Type 0 where
   pub queue : List ℕ
   pub images : List ℕ
 
+abbrev pub nucleus : State → List ℕ → List ℕ → List ℕ → Nucleus
+nucleus state store queue images = record { state = state; store = store; queue = queue; images = images }
+
+-- "Each call brings its own format and record buffer"
+pub record Given : Type 0 where
+  pub call : Call
+  pub format : List ℕ
+  pub buffer : List ℕ
+
+abbrev pub given : Call → List ℕ → List ℕ → Given
+given call format buffer = record { call = call; format = format; buffer = buffer }
+
 -- a call with its capacity (document 01's H), its buffers and its command
 pub record Request : Type 0 where
   pub capacity : ℕ
@@ -29,11 +42,17 @@ pub record Request : Type 0 where
   pub format : List ℕ
   pub buffer : List ℕ
 
+abbrev pub request : ℕ → Command → Call → List ℕ → List ℕ → Request
+request capacity command call format buffer = record { capacity = capacity; command = command; call = call; format = format; buffer = buffer }
+
 -- what a call answers, and what it leaves of the nucleus and of its record buffer
 pub record Result : Type 0 where
   pub answer : Answer
   pub nucleus : Nucleus
   pub buffer : List ℕ
+
+abbrev pub result : Answer → Nucleus → List ℕ → Result
+result answer n buffer = record { answer = answer; nucleus = n; buffer = buffer }
 
 -- ---- limits
 abbrev pub max-users : ℕ
@@ -89,8 +108,8 @@ with-clock clock s = record {
   count = s .count;
 }
 
-abbrev pub with-mark : ℕ → ℕ → State → State
-with-mark place isn s = record {
+abbrev pub with-last-assigned : ℕ → ℕ → State → State
+with-last-assigned place isn s = record {
   definition = s .definition;
   clock = s .clock;
   users = s .users;
@@ -130,6 +149,10 @@ with-store store n = record { state = n .state; store = store; queue = n .queue;
 -- the entries in use
 abbrev pub entries-of : Nucleus → List Entry
 entries-of n = entries (n .queue) (n .state .count)
+
+-- the greatest width: the bytes of an image
+abbrev pub width-of : Nucleus → ℕ
+width-of n = image-length (n .state .definition)
 
 -- ---- a user of the nucleus
 abbrev pub user-of : Nucleus → ℕ → User

@@ -1,6 +1,6 @@
 -- The response table (document 01, 'Responses, in the order of checking'): each row its cause and when it holds. The response is that of the
--- first row that holds. What a refused call leaves goes by the three lists: nothing is changed by the first; the second comes after the clock
--- and the back-outs, the third after the session that opened.
+-- first row that holds. What a refused call leaves goes by the four lists: nothing is changed by the first; the second comes after the clock
+-- and the back-outs, the others after the session that opened.
 use Prim.Native.Nat.{ℕ}
 use mathlib.Core.Bool.{Bool, false, not, _&&_, _||_}
 use mathlib.Core.List.{List, [], _∷_}
@@ -9,24 +9,23 @@ use lib.Dec.{eqb, leb, ltb}
 use lib.ListN.{length}
 use Rattle.lists.specs.Tests.{cond, within}
 use Rattle.lists.specs.Folds.{any}
+use Rattle.lists.specs.Numbers.{numbers}
 use Rattle.definition.specs.Table.{field-at, field-count, is-unique}
 use Rattle.records.specs.Records.{field-offset}
 use Rattle.validity.specs.Validity.{valid}
 use Rattle.elements.specs.Elements.{format-valid, named-twice, length-needed, places}
-use Rattle.fields.specs.Fields.{write-fields, values-allowed}
-use Rattle.nulls.specs.Nulls.{null-record}
-use Rattle.lists.specs.Numbers.{numbers}
-use Rattle.store.specs.Store.{record-of, field-value}
+use Rattle.fields.specs.Fields.{values-allowed}
+use Rattle.store.specs.Store.{field-value}
 use Rattle.search.specs.Search.{elsewhere}
-use Rattle.queue.specs.Queue as queue
+use Rattle.queue.specs.Queue.{held-by}
 use Rattle.images.specs.Images.{image-has}
-use Rattle.nucleus.specs.Commands.{command-of, one-of, has-option, option-I, option-H}
-use Rattle.nucleus.specs.Nucleus.{Nucleus, Request, max-users, max-et-data, data-at, user-of, entries-of}
+use Rattle.nucleus.specs.Commands.{command-of, one-of, on-file, at-given-isn, holding, changing-held, on-record, naming, bringing-values, on-session, serving-access-only, has-option, option-H}
+use Rattle.nucleus.specs.Users.{is-active}
+use Rattle.nucleus.specs.Nucleus.{Nucleus, Request, max-users, max-et-data, data-at, user-of, entries-of, width-of}
 use Rattle.nucleus.specs.WellMade.{too-short, well-made}
-use Rattle.nucleus.specs.Clock.{width-of}
-use Rattle.nucleus.specs.Target.{is-file, is-isn, held-by, held-by-other, changed-in, found, file, part, record-at, holder-of, target, target-isn}
+use Rattle.nucleus.specs.Target.{is-file, is-isn, other-holds, is-changed, command-in, file-place, file, part, record-at, holder-of, seeks, target, target-isn, held-by-caller, new-record}
 use Rattle.nucleus.specs.declared.Command.{Command}
-use Rattle.nucleus.specs.declared.Command.the-variants.{Hi, Ri, L1, L4, A1, E1, N1, N2, Et, Re, Op, Cl}
+use Rattle.nucleus.specs.declared.Command.the-variants.{Ri, A1, N1, N2, Et, Re}
 use Rattle.nucleus.specs.declared.Call.{Call}
 use Rattle.nucleus.specs.declared.User.{User}
 use Rattle.nucleus.specs.declared.Response.{Response}
@@ -45,141 +44,133 @@ first-cause [] = none
 first-cause (r ∷ rs) = cond (r .holds) (some (r .cause)) (first-cause rs)
 
 -- ---- before the clock
+-- "Where the kept table is invalid these sizes mean nothing, and 12 is given before 11"
+unfoldable pub rows-usable : ℕ → Nucleus → List Row
+rows-usable capacity n =
+    row StateInvalid (not (valid (n .state .definition)))
+    ∷ row BufferTooShort (too-short (n .state .definition) capacity (n .store) (n .queue) (n .images))
+    ∷ row StateInvalid (not (well-made capacity n))
+    ∷ []
+
 -- "unknown command, or option not named for it"
 abbrev pub understood : Option Command → ℕ → Bool
 understood none option = false
 understood (some c) option = has-option c option
 
--- "Where the kept table is invalid these sizes mean nothing, and 12 is given before 11"
-unfoldable pub rows-first : ℕ → Call → Nucleus → List Row
-rows-first capacity call n =
-    row StateInvalid (not (valid (n .state .definition)))
-    ∷ row BufferTooShort (too-short (n .state .definition) capacity (n .store) (n .queue) (n .images))
-    ∷ row StateInvalid (not (well-made capacity n))
-    ∷ row CommandUnknown (not (understood (command-of (call .command)) (call .option)))
+-- a command that the function does not serve is unknown there
+unfoldable pub rows-understood : List Command → Call → List Row
+rows-understood served call =
+    row CommandUnknown (not (understood (command-of served (call .command)) (call .option)))
     ∷ row UserUnknown (not (within 1 max-users (call .user)))
     ∷ []
 
 -- ---- after the clock
-module _ (r : Request) (n : Nucleus) where
+module _ (c : Command) (call : Call) (n : Nucleus) where
   abbrev pub caller : User
-  caller = user-of n (r .call .user)
-
-  abbrev pub is : List Command → Bool
-  is cs = one-of cs (r .command)
+  caller = user-of n (call .user)
 
   -- "overdue mark, or OP or CL in a transaction"
-  unfoldable pub overdue-mark : Bool
-  overdue-mark = caller .overdue
+  unfoldable pub is-overdue : Bool
+  is-overdue = caller .overdue
 
-  unfoldable pub ends-active : Bool
-  ends-active = is (Op ∷ Cl ∷ []) && caller .active
+  unfoldable pub session-in-transaction : Bool
+  session-in-transaction = one-of on-session c && is-active caller
 
   abbrev pub rows-after-clock : List Row
   rows-after-clock =
-      row BackedOut overdue-mark
-      ∷ row BackedOut ends-active
+      row BackedOut is-overdue
+      ∷ row BackedOut session-in-transaction
       ∷ []
 
   -- ---- after the session opened
   -- "access-only user, call not OP, CL, L1, RE"
   unfoldable pub access-refused : Bool
-  access-refused = caller .«access_only» && not (is (Op ∷ Cl ∷ L1 ∷ Re ∷ []))
+  access-refused = caller .«access_only» && not (one-of serving-access-only c)
 
+  abbrev pub rows-after-session : List Row
+  rows-after-session = row AccessOnly access-refused ∷ []
+
+-- ---- of a command that is admitted
+module _ (r : Request) (n : Nucleus) where
   -- RI of ISN 0 is about all files
   abbrev pub releases-all : Bool
-  releases-all = is (Ri ∷ []) && eqb (r .call .isn) 0
+  releases-all = command-in r n (Ri ∷ []) && eqb (r .call .isn) 0
 
   -- "file not defined (HI to N2; not RI of ISN 0)"
   unfoldable pub file-unknown : Bool
-  file-unknown = is (Hi ∷ Ri ∷ L1 ∷ L4 ∷ A1 ∷ E1 ∷ N1 ∷ N2 ∷ []) && not releases-all && not (is-file (found r n))
+  file-unknown = command-in r n on-file && not releases-all && not (is-file (file-place r n))
 
   -- "ISN 0 or above highest (HI, RI, L1, L4, A1, E1, N2; not option `I`; RI may have 0)"
   unfoldable pub isn-invalid : Bool
-  isn-invalid =
-      is (Hi ∷ Ri ∷ L1 ∷ L4 ∷ A1 ∷ E1 ∷ N2 ∷ []) && not releases-all && not (eqb (r .call .option) option-I)
-      && not (within 1 (file r n .«max_isn») (r .call .isn))
+  isn-invalid = command-in r n at-given-isn && not releases-all && not (seeks r n) && not (within 1 (file r n .«max_isn») (r .call .isn))
 
-  -- "format buffer breaks its form, or unknown name": "L1, L4, A1, N1 and N2 read a format buffer"
-  abbrev pub reads-format : Bool
-  reads-format = is (L1 ∷ L4 ∷ A1 ∷ N1 ∷ N2 ∷ [])
-
+  -- "format buffer breaks its form, or unknown name"
   unfoldable pub format-refused : Bool
-  format-refused = reads-format && not (format-valid (file r n) (r .format))
+  format-refused = command-in r n naming && not (format-valid (file r n) (r .format))
 
   -- "field twice in A1, N1, N2"
-  abbrev pub brings-values : Bool
-  brings-values = is (A1 ∷ N1 ∷ N2 ∷ [])
-
   unfoldable pub field-twice : Bool
-  field-twice = brings-values && named-twice (file r n) (r .format)
+  field-twice = command-in r n bringing-values && named-twice (file r n) (r .format)
 
   -- "record buffer shorter than the named fields, or than the data for RE; ET data over 64"
   unfoldable pub record-length-refused : Bool
   record-length-refused =
-      (reads-format && ltb (length (r .buffer)) (length-needed (file r n) (r .format)))
-      || (is (Re ∷ []) && ltb (length (r .buffer)) (data-at (n .state) (r .call .user) .length))
-      || (is (Et ∷ []) && ltb max-et-data (length (r .buffer)))
+      (command-in r n naming && ltb (length (r .buffer)) (length-needed (file r n) (r .format)))
+      || (command-in r n (Re ∷ []) && ltb (length (r .buffer)) (data-at (n .state) (r .call .user) .length))
+      || (command-in r n (Et ∷ []) && ltb max-et-data (length (r .buffer)))
 
   -- "A1, N1, N2: a digit or sign not allowed"
   unfoldable pub value-refused : Bool
-  value-refused = brings-values && not (values-allowed (file r n) (r .format) (r .buffer))
+  value-refused = command-in r n bringing-values && not (values-allowed (file r n) (r .format) (r .buffer))
 
   -- "option `I` finds none"
   unfoldable pub none-found : Bool
-  none-found = eqb (r .call .option) option-I && not (is-isn (target r n))
+  none-found = seeks r n && not (is-isn (target r n))
 
   -- "another user holds the ISN (not L1, not RI)". N1's ISN has no holder
   unfoldable pub held-elsewhere : Bool
-  held-elsewhere = is (Hi ∷ L4 ∷ A1 ∷ E1 ∷ N1 ∷ N2 ∷ []) && held-by-other (r .call .user) (holder-of r n (target-isn r n))
+  held-elsewhere = command-in r n holding && is-isn (target r n) && other-holds (r .call .user) (holder-of r n (target-isn r n))
 
   -- "no record (L1, L4, A1, E1), or one there (N2)"
   unfoldable pub presence-refused : Bool
   presence-refused =
-      (is (L1 ∷ L4 ∷ A1 ∷ E1 ∷ []) && not (record-at r n (target-isn r n)))
-      || (is (N2 ∷ []) && record-at r n (target-isn r n))
-
-  -- whether the caller holds the ISN
-  abbrev pub his : Bool
-  his = held-by (r .call .user) (holder-of r n (target-isn r n))
+      (command-in r n on-record && not (record-at r n (target-isn r n)))
+      || (command-in r n (N2 ∷ []) && record-at r n (target-isn r n))
 
   -- "not held by the user (A1, E1 without `H`, RI unless 0)"
   unfoldable pub not-held : Bool
   not-held =
-      ((is (A1 ∷ E1 ∷ []) && not (eqb (r .call .option) option-H)) || (is (Ri ∷ []) && not (eqb (r .call .isn) 0)))
-      && not his
+      ((command-in r n changing-held && not (eqb (r .call .option) option-H)) || (command-in r n (Ri ∷ []) && not (eqb (r .call .isn) 0)))
+      && not (held-by-caller r n)
 
   -- "RI of a changed entry"
   unfoldable pub release-refused : Bool
-  release-refused = is (Ri ∷ []) && not (eqb (r .call .isn) 0) && changed-in (holder-of r n (r .call .isn))
+  release-refused = command-in r n (Ri ∷ []) && not (eqb (r .call .isn) 0) && is-changed (holder-of r n (r .call .isn))
 
   -- "N1 finds no ISN"
   unfoldable pub file-full : Bool
-  file-full = is (N1 ∷ []) && not (is-isn (target r n))
+  file-full = command-in r n (N1 ∷ []) && not (is-isn (target r n))
 
-  -- "new entry": the command holds, and the caller does not hold the ISN yet
+  -- "new entry": the command holds, there is an ISN, and the caller does not hold it yet
   abbrev pub new-entry : Bool
-  new-entry = is (Hi ∷ L4 ∷ A1 ∷ E1 ∷ N1 ∷ N2 ∷ []) && not his
+  new-entry = command-in r n holding && is-isn (target r n) && not (held-by-caller r n)
 
   -- "new entry, user at or past his hold limit"
   unfoldable pub limit-reached : Bool
-  limit-reached = new-entry && leb (caller .«hold_limit») (queue.held-by (entries-of n) (r .call .user))
+  limit-reached = new-entry && leb (user-of n (r .call .user) .«hold_limit») (held-by (entries-of n) (r .call .user))
+
+  -- the most entries that there may be just now
+  abbrev pub room : ℕ
+  room = r .capacity
 
   -- "new entry, queue has H"
   unfoldable pub queue-full : Bool
-  queue-full = new-entry && leb (r .capacity) (n .state .count)
+  queue-full = new-entry && leb room (n .state .count)
 
   -- ---- unique values
-  -- the record as A1, N1 or N2 makes it at an ISN, in stored form: "A1 replaces the named fields"; for an added one "unnamed fields are null"
-  abbrev pub record-before : ℕ → List ℕ
-  record-before isn = cond (is (A1 ∷ [])) (record-of (file r n) (part r n) isn) (null-record (file r n) (record-of (file r n) (part r n) isn))
-
-  unfoldable pub new-record : ℕ → List ℕ
-  new-record isn = write-fields (file r n) (r .format) (r .buffer) (record-before isn)
-
   -- "N1 and N2 judge every unique field, A1 the named ones"
   abbrev pub judged : ℕ → Bool
-  judged k = is-unique (field-at (file r n) k .option) && (not (is (A1 ∷ [])) || any (eqb k) (places (file r n) (r .format)))
+  judged k = is-unique (field-at (file r n) k .option) && (not (command-in r n (A1 ∷ [])) || any (eqb k) (places (file r n) (r .format)))
 
   -- "it counts as taken while another record of the file has it in that field, or an image of another user's changed entry in that file has it
   -- there and a record was there before"
@@ -191,13 +182,12 @@ module _ (r : Request) (n : Nucleus) where
   -- "a unique value taken"
   unfoldable pub value-taken : Bool
   value-taken =
-      brings-values
-      && any (λ k. judged k && is-taken k (field-value (file r n) k (new-record (target-isn r n)))) (numbers (field-count (file r n)) 0)
+      command-in r n bringing-values
+      && any (λ k. judged k && is-taken k (field-value (file r n) k (new-record r n (target-isn r n)))) (numbers (field-count (file r n)) 0)
 
   abbrev pub rows-last : List Row
   rows-last =
-      row AccessOnly access-refused
-      ∷ row FileUnknown file-unknown
+      row FileUnknown file-unknown
       ∷ row IsnInvalid isn-invalid
       ∷ row FormatInvalid format-refused
       ∷ row FieldTwice field-twice

@@ -4,6 +4,7 @@ use Prim.Native.Nat.{ℕ, _-_}
 use mathlib.Core.Bool.{Bool, true, false, _&&_}
 use lib.Dec.{eqb, ltb}
 use Rattle.lists.specs.Tests.{cond}
+use Rattle.nucleus.specs.declared.Transaction.{Transaction}
 use Rattle.nucleus.specs.declared.User.{User}
 
 abbrev pub default-hold-limit : ℕ
@@ -24,8 +25,7 @@ opening = record {
   «time_limit» = default-time-limit;
   sequence = 0;
   «access_only» = false;
-  active = false;
-  begun = 0;
+  transaction = record { active = false; begun = 0 };
   overdue = false;
 }
 
@@ -45,8 +45,7 @@ set-session holds time access u = record {
   «time_limit» = or-default default-time-limit time;
   sequence = 0;
   «access_only» = access;
-  active = u .active;
-  begun = u .begun;
+  transaction = u .transaction;
   overdue = u .overdue;
 }
 
@@ -58,8 +57,7 @@ closed u = record {
   «time_limit» = u .«time_limit»;
   sequence = u .sequence;
   «access_only» = u .«access_only»;
-  active = u .active;
-  begun = u .begun;
+  transaction = u .transaction;
   overdue = u .overdue;
 }
 
@@ -75,46 +73,47 @@ counted next u = record {
   «time_limit» = u .«time_limit»;
   sequence = next;
   «access_only» = u .«access_only»;
-  active = u .active;
-  begun = u .begun;
+  transaction = u .transaction;
   overdue = u .overdue;
 }
 
 -- ---- transactions and the clock
+abbrev pub is-active : User → Bool
+is-active u = u .transaction .active
+
 -- a transaction that began more than the limit ago
 abbrev pub late : ℕ → ℕ → ℕ → Bool
 late clock begun limit = ltb limit (clock - begun)
 
 abbrev pub is-due : ℕ → User → Bool
-is-due clock u = u .active && late clock (u .begun) (u .«time_limit»)
+is-due clock u = is-active u && late clock (u .transaction .begun) (u .«time_limit»)
 
-abbrev pub with-transaction : Bool → ℕ → User → User
-with-transaction active begun u = record {
+abbrev pub with-transaction : Transaction → User → User
+with-transaction t u = record {
   session = u .session;
   «hold_limit» = u .«hold_limit»;
   «time_limit» = u .«time_limit»;
   sequence = u .sequence;
   «access_only» = u .«access_only»;
-  active = active;
-  begun = begun;
+  transaction = t;
   overdue = u .overdue;
 }
 
 -- "A transaction opens at the user's first new hold"
 abbrev pub started : ℕ → User → User
-started clock u = cond (u .active) u (with-transaction true clock u)
+started clock u = cond (is-active u) u (with-transaction (record { active = true; begun = clock }) u)
 
 abbrev pub ended : User → User
-ended u = with-transaction false (u .begun) u
+ended u = with-transaction (record { active = false; begun = u .transaction .begun }) u
 
-abbrev pub marked : Bool → User → User
-marked overdue u = record {
+-- document 01's overdue mark, set or cleared
+abbrev pub with-overdue : Bool → User → User
+with-overdue overdue u = record {
   session = u .session;
   «hold_limit» = u .«hold_limit»;
   «time_limit» = u .«time_limit»;
   sequence = u .sequence;
   «access_only» = u .«access_only»;
-  active = u .active;
-  begun = u .begun;
+  transaction = u .transaction;
   overdue = overdue;
 }

@@ -13,6 +13,7 @@ use Rattle.repeats.specs.Repeats.{repeated}
 use Rattle.definition.specs.declared.Definition.{Definition}
 use Rattle.definition.specs.declared.File.{File}
 use Rattle.entries.specs.declared.Entry.{Entry}
+use Rattle.nucleus.specs.Users.{is-active}
 use Rattle.nucleus.specs.Nucleus.{Nucleus, max-users, max-capacity, max-et-data, user-at, entries-of}
 use Rattle.nucleus.specs.declared.User.{User}
 use Rattle.nucleus.specs.declared.EtData.{EtData}
@@ -30,21 +31,21 @@ too-short d capacity store queue images =
 abbrev pub entry-made : State → Entry → Bool
 entry-made s e =
     isn-found (s .definition) (place (s .definition) (e .file)) (e .isn)
-    && (within 1 max-users (e .user) && user-at s (e .user) .active)
+    && (within 1 max-users (e .user) && is-active (user-at s (e .user)))
 
 -- ---- users: "whoever is in one has a session; no transaction begun after the kept clock"
 abbrev pub user-made : ℕ → User → Bool
-user-made clock u = not (u .active) || (u .session && leb (u .begun) clock)
+user-made clock u = not (is-active u) || (u .session && leb (u .transaction .begun) clock)
 
 -- "ET data at most 64 bytes"
 abbrev pub data-made : EtData → Bool
 data-made x = leb (x .length) max-et-data
 
 -- "N1's marks at most the highest ISN", of the files in use
-abbrev pub marks-made : List ℕ → List File → Bool
-marks-made marks [] = true
-marks-made [] (f ∷ fs) = true
-marks-made (m ∷ marks) (f ∷ fs) = leb m (f .«max_isn») && marks-made marks fs
+abbrev pub assigned-made : List ℕ → List File → Bool
+assigned-made isns [] = true
+assigned-made [] (f ∷ fs) = true
+assigned-made (isn ∷ isns) (f ∷ fs) = leb isn (f .«max_isn») && assigned-made isns fs
 
 -- "Well made: the kept table is valid, at most H entries, no file and ISN in two, .."
 unfoldable pub well-made : ℕ → Nucleus → Bool
@@ -54,5 +55,5 @@ well-made capacity n =
     && not (repeated (entries-of n))
     && all (entry-made (n .state)) (entries-of n)
     && all (user-made (n .state .clock)) (n .state .users)
-    && marks-made (n .state .«last_assigned») (files-of (n .state .definition))
+    && assigned-made (n .state .«last_assigned») (files-of (n .state .definition))
     && all data-made (n .state .«et_data»)

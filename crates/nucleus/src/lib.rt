@@ -1,6 +1,6 @@
-// The nucleus (document 01): what it keeps between calls, a call, and what a call answers.
+// The nucleus (document 01): what it keeps between calls, a call, and what a call answers. What a call does is said in specs/; the crates above
+// have the code that is proved to do it.
 ghost use mathlib.Core.Path.{_≡_};
-ghost use Rattle.nucleus.specs.Commands.{code-at};
 ghost use Rattle.nucleus.specs.Users.{opening};
 use definition::Definition;
 use definition::MAX_FILES;
@@ -33,33 +33,6 @@ pub enum Command {
 }
 
 pub const COMMANDS: usize = 13;
-
-// The table of commands: the code of each, at its place.
-const CODES: [[u8; 2]; COMMANDS] = [
-    *b"HI",
-    *b"RI",
-    *b"L1",
-    *b"L4",
-    *b"A1",
-    *b"E1",
-    *b"N1",
-    *b"N2",
-    *b"ET",
-    *b"BT",
-    *b"RE",
-    *b"OP",
-    *b"CL",
-];
-
-// The code at a place of the table, from 0; zeros past its end.
-pub fn code_at(place: usize) -> [u8; 2]
-    ensures { λ r. ⌜ r ≡ code-at place ⌝ }
-{
-    if place < COMMANDS {
-        return CODES[place];
-    }
-    [0, 0]
-}
 
 // The options of a call.
 pub const BLANK: u8 = b' ';
@@ -119,16 +92,20 @@ pub struct Answer {
     pub sequence: u32,
 }
 
-// A user's session, transaction and mark. What belongs to an ended session or transaction keeps its last values and decides nothing.
+// All that is kept for a user's transaction: whether he is in one, and the clock at which it began.
+pub struct Transaction {
+    pub active: bool,
+    pub begun: u32,
+}
+
+// A user's session and transaction. What belongs to an ended session or transaction keeps its last values and decides nothing.
 pub struct User {
     pub session: bool,
     pub hold_limit: u16,
     pub time_limit: u16,
     pub sequence: u32,
     pub access_only: bool,
-    // In a transaction, and the clock at which that began.
-    pub active: bool,
-    pub begun: u32,
+    pub transaction: Transaction,
     // Backed out by the clock, and not told yet.
     pub overdue: bool,
 }
@@ -150,8 +127,10 @@ impl User {
             time_limit: User::TIME_LIMIT,
             sequence: User::SEQUENCE,
             access_only: false,
-            active: false,
-            begun: 0,
+            transaction: Transaction {
+                active: false,
+                begun: 0,
+            },
             overdue: false,
         }
     }

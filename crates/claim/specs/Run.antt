@@ -7,26 +7,20 @@ use Rattle.layout.specs.Layout.{place, file-found}
 use Rattle.store.specs.Store.{get}
 use Rattle.nucleus.specs.Commands.{code, blank}
 use Rattle.nucleus.specs.Responses.{number}
-use Rattle.nucleus.specs.Nucleus.{Nucleus, Result}
+use Rattle.nucleus.specs.Nucleus.{Nucleus, Result, Given, given}
 use Rattle.nucleus.specs.Target.{part-in}
 use Rattle.nucleus.specs.Step.{step, set-up}
-use Rattle.nucleus.specs.declared.Call.{Call}
 use Rattle.nucleus.specs.declared.Command.the-variants.{Bt}
-use Rattle.history.specs.Journal.{Journal, new-journal, fed, struck}
+use Rattle.claim.specs.Journal.{Journal, new-journal, fed, struck}
 
--- "Each call brings its own format and record buffer"
-pub record Given : Type 0 where
-  pub call : Call
-  pub format : List ℕ
-  pub buffer : List ℕ
-
+-- the nucleus, and the journal beside it
 pub record World : Type 0 where
   pub nucleus : Nucleus
   pub journal : Journal
 
 -- what one call answers and leaves
-abbrev pub result : ℕ → Given → World → Result
-result capacity g w = step capacity (g .call) (g .format) (g .buffer) (w .nucleus)
+abbrev pub step-given : ℕ → Given → World → Result
+step-given capacity g w = step capacity (g .call) (g .format) (g .buffer) (w .nucleus)
 
 -- the journal is fed the call's arguments, the response and the ISN
 abbrev pub after : Given → Result → Journal → World
@@ -36,7 +30,7 @@ after g r j = record {
 }
 
 abbrev pub called : ℕ → Given → World → World
-called capacity g w = after g (result capacity g w) (w .journal)
+called capacity g w = after g (step-given capacity g w) (w .journal)
 
 unfoldable pub run : ℕ → List Given → World → World
 run capacity [] w = w
@@ -47,23 +41,28 @@ abbrev pub begin : ℕ → List ℕ → List ℕ → List ℕ → List ℕ → W
 begin capacity store queue images table = record { nucleus = set-up capacity store queue images table .nucleus; journal = new-journal }
 
 -- ---- afterwards
--- "one BT, option blank, clock 0"
-abbrev pub bt : ℕ → Given
-bt user = record {
-  call = record { command = code Bt; option = blank; user = user; file = 0; isn = 0; limit = 0; clock = 0 };
-  format = [];
-  buffer = [];
-}
+-- "one BT, option blank, clock 0": what else a call has may be anything
+pub record BackOut : Type 0 where
+  pub user : ℕ
+  pub file : ℕ
+  pub isn : ℕ
+  pub limit : ℕ
+  pub format : List ℕ
+  pub buffer : List ℕ
+
+abbrev pub bt : BackOut → Given
+bt b =
+    given (record { command = code Bt; option = blank; user = b .user; file = b .file; isn = b .isn; limit = b .limit; clock = 0 }) (b .format) (b .buffer)
 
 -- the nucleus after one BT of each user
-abbrev pub back-outs : ℕ → List ℕ → Nucleus → Nucleus
+abbrev pub back-outs : ℕ → List BackOut → Nucleus → Nucleus
 back-outs capacity [] n = n
-back-outs capacity (u ∷ us) n = back-outs capacity us (step capacity (bt u .call) (bt u .format) (bt u .buffer) n .nucleus)
+back-outs capacity (b ∷ bs) n = back-outs capacity bs (step capacity (bt b .call) (bt b .format) (bt b .buffer) n .nucleus)
 
 -- "the book strikes his open changes"
-abbrev pub struck-all : List ℕ → Journal → Journal
+abbrev pub struck-all : List BackOut → Journal → Journal
 struck-all [] j = j
-struck-all (u ∷ us) j = struck-all us (struck u j)
+struck-all (b ∷ bs) j = struck-all bs (struck (b .user) j)
 
 -- the record that the nucleus has at a file and ISN of a table, if any
 abbrev pub record-in : Definition → Nucleus → ℕ → ℕ → Option (List ℕ)

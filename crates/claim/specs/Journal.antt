@@ -15,7 +15,7 @@ use Rattle.fields.specs.Fields.{write-fields}
 use Rattle.nulls.specs.Nulls.{nulls}
 use Rattle.definition.specs.declared.Definition.{Definition}
 use Rattle.definition.specs.declared.File.{File}
-use Rattle.nucleus.specs.Commands.{command-of, one-of}
+use Rattle.nucleus.specs.Commands.{commands, command-of, one-of, on-session}
 use Rattle.nucleus.specs.Users.{default-time-limit, or-default, late}
 use Rattle.nucleus.specs.Nucleus.{max-users}
 use Rattle.nucleus.specs.declared.Call.{Call}
@@ -67,13 +67,13 @@ member j u = getD (j .members) (u - 1) new-member
 abbrev pub with-member : ℕ → Member → Journal → Journal
 with-member u m j = record { clock = j .clock; members = set (j .members) (u - 1) m; changes = j .changes }
 
-abbrev pub started : Option ℕ → Bool
-started none = false
-started (some begun) = true
+abbrev pub has-start : Option ℕ → Bool
+has-start none = false
+has-start (some begun) = true
 
 -- "a user whom the book has in a transaction"
 abbrev pub in-transaction : Journal → ℕ → Bool
-in-transaction j u = within 1 max-users u && started (member j u .start)
+in-transaction j u = within 1 max-users u && has-start (member j u .start)
 
 -- ---- what it does
 -- "his open changes are struck, his transaction ends"
@@ -92,28 +92,28 @@ abbrev pub is-late : ℕ → ℕ → Option ℕ → Bool
 is-late clock limit none = false
 is-late clock limit (some begun) = late clock begun limit
 
-abbrev pub timed-out : ℕ → Journal → Journal
-timed-out u j = cond (is-late (j .clock) (member j u .limit) (member j u .start)) (struck u j) j
+abbrev pub strike-late : ℕ → Journal → Journal
+strike-late u j = cond (is-late (j .clock) (member j u .limit) (member j u .start)) (struck u j) j
 
-abbrev pub timed-out-from : ℕ → ℕ → Journal → Journal
-timed-out-from zero u j = j
-timed-out-from (suc more) u j = timed-out-from more (u + 1) (timed-out u j)
+abbrev pub strike-late-from : ℕ → ℕ → Journal → Journal
+strike-late-from zero u j = j
+strike-late-from (suc more) u j = strike-late-from more (u + 1) (strike-late u j)
 
 -- "raises the clock to its own, if greater"
-unfoldable pub clocked : ℕ → Journal → Journal
-clocked clock j = timed-out-from max-users 1 (record { clock = max (j .clock) clock; members = j .members; changes = j .changes })
+unfoldable pub log-clock : ℕ → Journal → Journal
+log-clock clock j = strike-late-from max-users 1 (record { clock = max (j .clock) clock; members = j .members; changes = j .changes })
 
 -- "starts its user's transaction at that clock, unless he is in one"
 abbrev pub start-at : ℕ → Option ℕ → Option ℕ
 start-at clock none = some clock
 start-at clock (some begun) = some begun
 
-unfoldable pub begun : ℕ → Journal → Journal
-begun u j = with-member u (record { limit = member j u .limit; start = start-at (j .clock) (member j u .start) }) j
+unfoldable pub log-start : ℕ → Journal → Journal
+log-start u j = with-member u (record { limit = member j u .limit; start = start-at (j .clock) (member j u .start) }) j
 
 -- "the last four add an open change at the ISN answered"
-unfoldable pub changed : Call → ℕ → Update → Journal → Journal
-changed call isn update j = record {
+unfoldable pub log-change : Call → ℕ → Update → Journal → Journal
+log-change call isn update j = record {
   clock = j .clock;
   members = j .members;
   changes = j .changes ++ (record { user = call .user; file = call .file; isn = isn; update = update; uncommitted = true } ∷ []);
@@ -123,38 +123,38 @@ changed call isn update j = record {
 abbrev pub commits : ℕ → Change → Change
 commits u c = record { user = c .user; file = c .file; isn = c .isn; update = c .update; uncommitted = c .uncommitted && not (eqb (c .user) u) }
 
-unfoldable pub ended : ℕ → Journal → Journal
-ended u j = record {
+unfoldable pub log-end : ℕ → Journal → Journal
+log-end u j = record {
   clock = j .clock;
   members = set (j .members) (u - 1) (record { limit = member j u .limit; start = none });
   changes = map (commits u) (j .changes);
 }
 
-unfoldable pub limited : ℕ → ℕ → Journal → Journal
-limited u limit j = with-member u (record { limit = limit; start = member j u .start }) j
+unfoldable pub log-limit : ℕ → ℕ → Journal → Journal
+log-limit u limit j = with-member u (record { limit = limit; start = member j u .start }) j
 
 -- a call of a command that was answered 0
-abbrev pub accepted : Command → Call → List ℕ → List ℕ → ℕ → Journal → Journal
-accepted Hi call format buffer isn j = begun (call .user) j
-accepted Ri call format buffer isn j = j
-accepted L1 call format buffer isn j = j
-accepted L4 call format buffer isn j = begun (call .user) j
-accepted A1 call format buffer isn j = changed call isn (replace format buffer) (begun (call .user) j)
-accepted E1 call format buffer isn j = changed call isn erase (begun (call .user) j)
-accepted N1 call format buffer isn j = changed call isn (add format buffer) (begun (call .user) j)
-accepted N2 call format buffer isn j = changed call isn (add format buffer) (begun (call .user) j)
-accepted Et call format buffer isn j = ended (call .user) j
-accepted Bt call format buffer isn j = struck (call .user) j
-accepted Re call format buffer isn j = j
-accepted Op call format buffer isn j = limited (call .user) (or-default default-time-limit (call .limit)) j
-accepted Cl call format buffer isn j = limited (call .user) default-time-limit j
+abbrev pub log-accepted : Command → Call → List ℕ → List ℕ → ℕ → Journal → Journal
+log-accepted Hi call format buffer isn j = log-start (call .user) j
+log-accepted Ri call format buffer isn j = j
+log-accepted L1 call format buffer isn j = j
+log-accepted L4 call format buffer isn j = log-start (call .user) j
+log-accepted A1 call format buffer isn j = log-change call isn (replace format buffer) (log-start (call .user) j)
+log-accepted E1 call format buffer isn j = log-change call isn erase (log-start (call .user) j)
+log-accepted N1 call format buffer isn j = log-change call isn (add format buffer) (log-start (call .user) j)
+log-accepted N2 call format buffer isn j = log-change call isn (add format buffer) (log-start (call .user) j)
+log-accepted Et call format buffer isn j = log-end (call .user) j
+log-accepted Bt call format buffer isn j = struck (call .user) j
+log-accepted Re call format buffer isn j = j
+log-accepted Op call format buffer isn j = log-limit (call .user) (or-default default-time-limit (call .limit)) j
+log-accepted Cl call format buffer isn j = log-limit (call .user) default-time-limit j
 
 -- of a command, and the number that answered it: "OP or CL with 9 backs him out"
-abbrev pub answered : Option Command → Call → List ℕ → List ℕ → ℕ → ℕ → Journal → Journal
-answered none call format buffer response isn j = j
-answered (some c) call format buffer response isn j =
-    cond (eqb response 0) (accepted c call format buffer isn j)
-    (cond (eqb response 9 && one-of (Op ∷ Cl ∷ []) c) (struck (call .user) j) j)
+abbrev pub log-answered : Option Command → Call → List ℕ → List ℕ → ℕ → ℕ → Journal → Journal
+log-answered none call format buffer response isn j = j
+log-answered (some c) call format buffer response isn j =
+    cond (eqb response 0) (log-accepted c call format buffer isn j)
+    (cond (eqb response 9 && one-of on-session c) (struck (call .user) j) j)
 
 -- "A response of 72's row or an earlier one changes nothing in it": 10, 11, 12, 22, 72
 abbrev pub is-early : ℕ → Bool
@@ -163,7 +163,7 @@ is-early response = any (eqb response) (10 ∷ 11 ∷ 12 ∷ 22 ∷ 72 ∷ [])
 -- one call's arguments, its response's number and its ISN
 unfoldable pub fed : Call → List ℕ → List ℕ → ℕ → ℕ → Journal → Journal
 fed call format buffer response isn j =
-    cond (is-early response) j (answered (command-of (call .command)) call format buffer response isn (clocked (call .clock) j))
+    cond (is-early response) j (log-answered (command-of commands (call .command)) call format buffer response isn (log-clock (call .clock) j))
 
 -- ---- its records: "come from empty files by the changes not struck, in order"
 abbrev pub is-at : ℕ → ℕ → Change → Bool

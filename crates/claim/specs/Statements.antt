@@ -1,0 +1,110 @@
+-- Statements beside requirement 3, to be read with Claim.antt. Most are of every definition table, capacity and lent store, queue and images for
+-- which set-up answers 0, and of every list of calls after it.
+use Prim.Native.Nat.{ℕ}
+use mathlib.Core.Path.{_≡_}
+use mathlib.Core.Logic.{_⊎_}
+use mathlib.Core.Bool.{Bool, true, false, _&&_}
+use mathlib.Core.List.{List, [], _∷_, map}
+use mathlib.Core.Option.{some}
+use lib.Dec.{eqb}
+use Rattle.lists.specs.Tests.{within}
+use Rattle.lists.specs.Folds.{any, all}
+use Rattle.definition.specs.Table.{fields-of}
+use Rattle.definition.specs.declared.Definition.{Definition}
+use Rattle.fields.specs.Fields.{write-fields}
+use Rattle.nulls.specs.Nulls.{nulls}
+use Rattle.reading.specs.Grammar.{read-table}
+use Rattle.nucleus.specs.Commands.{code}
+use Rattle.nucleus.specs.Users.{is-active}
+use Rattle.nucleus.specs.Nucleus.{Nucleus, Given, max-users, user-of}
+use Rattle.nucleus.specs.WellMade.{too-short, well-made}
+use Rattle.nucleus.specs.Step.{set-up}
+use Rattle.nucleus.specs.declared.Call.{Call}
+use Rattle.nucleus.specs.declared.Command.the-variants.{N1, N2}
+use Rattle.nucleus.specs.declared.Response.the-variants.{Good}
+use Rattle.claim.specs.Journal.{Journal, in-transaction, fed, record-told}
+use Rattle.claim.specs.Run.{World, BackOut, run, begin, bt, back-outs, struck-all}
+use Rattle.claim.specs.Claim.{file-numbered, Chosen}
+use Rattle.claim.specs.Answers.{Answered, answers, fed-all}
+use Rattle.claim.specs.Lent.{Lent, lent-at, Past}
+
+-- ---- no call answers 10, 11 or 12
+abbrev pub unusable : ℕ → Bool
+unusable response = any (eqb response) (10 ∷ 11 ∷ 12 ∷ [])
+
+abbrev pub NeverUnusable : Type 0
+NeverUnusable =
+    (capacity : ℕ) (table store queue images : List ℕ) (calls : List Given)
+    → set-up capacity store queue images table .response ≡ Good
+    → any (λ (a : Answered). unusable (a .response)) (answers capacity calls (begin capacity store queue images table)) ≡ false
+
+-- ---- the state keeps the table that set-up read, it stays well made, and nothing lent is too short
+pub record Usable (capacity : ℕ) (d : Definition) (n : Nucleus) : Type 0 where
+  pub same-table : n .state .definition ≡ d
+  pub made : well-made capacity n ≡ true
+  pub long : too-short d capacity (n .store) (n .queue) (n .images) ≡ false
+
+abbrev pub StaysUsable : Type 0
+StaysUsable =
+    (capacity : ℕ) (table store queue images : List ℕ) (calls : List Given)
+    → set-up capacity store queue images table .response ≡ Good
+    → Usable capacity (read-table table .definition) (run capacity calls (begin capacity store queue images table) .nucleus)
+
+-- ---- whom the journal has in a transaction the nucleus has in one, and nobody else
+abbrev pub SameTransactions : Type 0
+SameTransactions =
+    (capacity : ℕ) (table store queue images : List ℕ) (calls : List Given) (u : ℕ)
+    → set-up capacity store queue images table .response ≡ Good
+    → in-transaction (run capacity calls (begin capacity store queue images table) .journal) u
+    ≡ (within 1 max-users u && is-active (user-of (run capacity calls (begin capacity store queue images table) .nucleus) u))
+
+-- ---- the BTs of the claim, after any list of calls
+-- each answers 0, one after another
+abbrev pub BackOutsAccepted : Type 0
+BackOutsAccepted =
+    (capacity : ℕ) (table store queue images : List ℕ) (calls : List Given) (bs : List BackOut)
+    → set-up capacity store queue images table .response ≡ Good
+    → Chosen bs (run capacity calls (begin capacity store queue images table) .journal)
+    → all (λ (a : Answered). eqb (a .response) 0) (answers capacity (map bt bs) (run capacity calls (begin capacity store queue images table))) ≡ true
+
+-- they are a list of calls too: what it leaves of the nucleus is what the claim speaks of
+abbrev pub BackOutsAreCalls : Type 0
+BackOutsAreCalls = (capacity : ℕ) (bs : List BackOut) (w : World) → run capacity (map bt bs) w .nucleus ≡ back-outs capacity bs (w .nucleus)
+
+-- and the journal that is fed them, with what the nucleus answers, is the one whose open changes the claim strikes
+abbrev pub BackOutsAreFed : Type 0
+BackOutsAreFed =
+    (capacity : ℕ) (table store queue images : List ℕ) (calls : List Given) (bs : List BackOut)
+    → set-up capacity store queue images table .response ≡ Good
+    → Chosen bs (run capacity calls (begin capacity store queue images table) .journal)
+    → run capacity (map bt bs) (run capacity calls (begin capacity store queue images table)) .journal
+    ≡ struck-all bs (run capacity calls (begin capacity store queue images table) .journal)
+
+-- ---- of the journal alone
+-- "is fed each call's arguments, response and ISN": nothing else of the nucleus comes into it
+abbrev pub JournalOfAnswers : Type 0
+JournalOfAnswers = (capacity : ℕ) (calls : List Given) (w : World) → run capacity calls w .journal ≡ fed-all (answers capacity calls w) (w .journal)
+
+-- the record that an N1 or N2 adds: its values in stored form, nulls elsewhere
+abbrev pub record-added : Definition → Call → List ℕ → List ℕ → List ℕ
+record-added d call format buffer =
+    write-fields (file-numbered d (call .file)) format buffer (nulls (fields-of (file-numbered d (call .file))))
+
+-- an N1 or N2 that was answered 0 is told, whatever was told before
+abbrev pub AddedTold : Type 0
+AddedTold =
+    (d : Definition) (j : Journal) (call : Call) (format buffer : List ℕ) (isn : ℕ)
+    → (call .command ≡ code N1) ⊎ (call .command ≡ code N2)
+    → record-told d (fed call format buffer 0 isn j) (call .file) isn ≡ some (record-added d call format buffer)
+
+-- ---- "Bytes and entries past these sizes are never touched", by the calls and by the BTs after them
+abbrev pub AsLent : ℕ → Definition → Lent → Nucleus → Type 0
+AsLent capacity d lent n = Past capacity d lent (n .store) (n .queue) (n .images)
+
+abbrev pub NeverTouched : Type 0
+NeverTouched =
+    (capacity : ℕ) (table store queue images : List ℕ) (calls : List Given) (bs : List BackOut)
+    → set-up capacity store queue images table .response ≡ Good
+    → Chosen bs (run capacity calls (begin capacity store queue images table) .journal)
+    → AsLent capacity (read-table table .definition) (lent-at table store queue images)
+    (back-outs capacity bs (run capacity calls (begin capacity store queue images table) .nucleus))

@@ -1,0 +1,2 @@
+-- What proofs of other crates cite too.
+pub mod Known
