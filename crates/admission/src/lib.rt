@@ -1,0 +1,208 @@
+// What comes before a command (document 01, 'Responses'): 22 and 72, the clock with its back-outs, 9, the session that opens, 29.
+ghost use mathlib.Core.Bool.{_&&_, not};
+ghost use mathlib.Core.List.{List};
+ghost use mathlib.Core.Path.{_≡_};
+ghost use Prim.Native.Nat.{ℕ, _-_, max};
+ghost use lib.ListN.{getD, set};
+ghost use Rattle.nucleus.specs.Commands.{commands, one-of, on-session, serving-access-only};
+ghost use Rattle.nucleus.specs.Users.{fresh-user, is-active};
+ghost use Rattle.nucleus.specs.Clock.{clocked};
+ghost use Rattle.nucleus.specs.Step.{admitted-user};
+ghost use Rattle.nucleus.specs.declared.EtData.{EtData};
+ghost use Rattle.overdue.specs.Parts.{parts};
+ghost use Rattle.admission.specs.Admission.{understood-as, cause-of, admission-of, turned};
+use codes::Decoded;
+use definition::Definition;
+use nucleus::Call;
+use nucleus::Command;
+use nucleus::MAX_USERS;
+use nucleus::Response;
+use nucleus::User;
+use shares::Verdict;
+
+// What the command and the user of a call are taken for.
+pub enum Understood {
+    As(Command),
+    Refused(Response),
+}
+
+// 22 and 72.
+pub fn understand(call: Call) -> Understood
+    ensures { λ r. ⌜ r ≡ understood-as commands call ⌝ }
+{
+    let letters = call.command;
+    let decoded = codes::command_of(letters);
+    let Decoded::Known(command) = decoded else {
+        return Understood::Refused(Response::CommandUnknown);
+    };
+    if !codes::has_option(command, call.option) {
+        return Understood::Refused(Response::CommandUnknown);
+    }
+    if call.user < 1 {
+        return Understood::Refused(Response::UserUnknown);
+    }
+    if MAX_USERS < call.user as usize {
+        return Understood::Refused(Response::UserUnknown);
+    }
+    Understood::As(command)
+}
+
+// Why a call was not understood.
+pub fn cause(understood: Understood) -> Response
+    ensures { λ r. ⌜ r ≡ cause-of understood ⌝ }
+{
+    match understood {
+        Understood::As(_) => Response::CommandUnknown,
+        Understood::Refused(cause) => cause,
+    }
+}
+
+// Whether the call is let in, and what the clock, a back-out and the session that opened left of clock, users and entries.
+pub struct Admitted {
+    pub verdict: Verdict,
+    pub clock: u32,
+    pub users: [User; MAX_USERS],
+    pub count: usize,
+}
+
+// Where a user's number stands among the users; 0 reads as 1, as in the definitions.
+fn place(number: u8) -> usize
+    ensures { λ r. ⌜ r ≡ number - 1 ⌝ }
+{
+    if number == 0 {
+        return 0;
+    }
+    (number - 1) as usize
+}
+
+// The user of a number; one without a session where there is none.
+pub fn user_at(users: [User; MAX_USERS], number: u8) -> User
+    ensures { λ r. ⌜ r ≡ getD users (number - 1) fresh-user ⌝ }
+{
+    let at = place(number);
+    if at < MAX_USERS {
+        return users[at];
+    }
+    sessions::fresh_user()
+}
+
+// The users with another value for one of them.
+fn with_user(mut users: [User; MAX_USERS], number: u8, user: User) -> [User; MAX_USERS]
+    ensures { λ r. ⌜ r ≡ set users (number - 1) user ⌝ }
+{
+    let at = place(number);
+    if at < MAX_USERS {
+        users[at] = user;
+    }
+    users
+}
+
+// "OP or CL in a transaction".
+fn session_in_transaction(command: Command, user: User) -> bool
+    ensures { λ r. ⌜ r ≡ (one-of on-session command && is-active user) ⌝ }
+{
+    if codes::on_session(command) {
+        return user.transaction.active;
+    }
+    false
+}
+
+// "access-only user, call not OP, CL, L1, RE".
+fn access_refused(command: Command, user: User) -> bool
+    ensures { λ r. ⌜ r ≡ (user .«access_only» && not (one-of serving-access-only command)) ⌝ }
+{
+    if user.access_only {
+        return !codes::serves_access_only(command);
+    }
+    false
+}
+
+fn refused(cause: Response, clock: u32, users: [User; MAX_USERS], count: usize) -> Admitted
+    ensures { λ r. ⌜ r ≡ turned cause clock users count ⌝ }
+{
+    Admitted {
+        verdict: Verdict::Refused(cause),
+        clock,
+        users,
+        count,
+    }
+}
+
+// 9, the session that opens, and 29, after the clock; whatever else the state keeps.
+fn admit_user(
+    command: Command,
+    call: Call,
+    d: Definition,
+    clock: u32,
+    users: [User; MAX_USERS],
+    count: usize,
+    store: &mut [u8],
+    queue: &mut [u64],
+    images: &mut [u8],
+) -> Admitted
+    ensures { λ r. ⌜ ((kept : List EtData) (assigned : List ℕ)
+        → admitted-user command call (parts d clock users kept assigned count (now (store .entry)) (now (queue .entry)) (now (images .entry)))
+        ≡ admission-of (r .verdict) command (parts d (r .clock) (r .users) kept assigned (r .count) (now (store .exit)) (now (queue .exit)) (now (images .exit)))) ⌝ }
+{
+    let number = call.user;
+    let user = user_at(users, number);
+    if user.overdue {
+        let cleared = with_user(users, number, sessions::with_overdue(user, false));
+        return refused(Response::BackedOut, clock, cleared, count);
+    }
+    if session_in_transaction(command, user) {
+        let width = layout::image_length(d);
+        let left = release::back_out(d, width, number, store, queue, images, count);
+        let out = with_user(users, number, release::ended(user));
+        return refused(Response::BackedOut, clock, out, left);
+    }
+    let session = sessions::opened(user);
+    let opened = with_user(users, number, session);
+    if access_refused(command, session) {
+        return refused(Response::AccessOnly, clock, opened, count);
+    }
+    Admitted {
+        verdict: Verdict::Passed,
+        clock,
+        users: opened,
+        count,
+    }
+}
+
+fn latest(a: u32, b: u32) -> u32
+    ensures { λ r. ⌜ r ≡ max a b ⌝ }
+{
+    if a < b { b } else { a }
+}
+
+// The clock with its back-outs, 9, the session that opens, and 29; whatever else the state keeps.
+pub fn admit(
+    command: Command,
+    call: Call,
+    d: Definition,
+    clock: u32,
+    users: [User; MAX_USERS],
+    count: usize,
+    store: &mut [u8],
+    queue: &mut [u64],
+    images: &mut [u8],
+) -> Admitted
+    ensures { λ r. ⌜ ((kept : List EtData) (assigned : List ℕ)
+        → admitted-user command call (clocked (call .clock) (parts d clock users kept assigned count (now (store .entry)) (now (queue .entry)) (now (images .entry))))
+        ≡ admission-of (r .verdict) command (parts d (r .clock) (r .users) kept assigned (r .count) (now (store .exit)) (now (queue .exit)) (now (images .exit)))) ⌝ }
+{
+    let now = latest(clock, call.clock);
+    let passed = overdue::pass(d, now, users, count, store, queue, images);
+    let people = passed.users;
+    admit_user(
+        command,
+        call,
+        d,
+        now,
+        people,
+        passed.count,
+        store,
+        queue,
+        images,
+    )
+}

@@ -1,0 +1,215 @@
+use borrow.Author.Needs.{needs}
+use Prim.Native.Nat.{ℕ}
+use mathlib.Core.Path.{_≡_, refl, sym, ap, _∙_}
+use mathlib.Core.Bool.{true, false}
+use mathlib.Core.List.{List, [], _∷_}
+use Rattle.lists.specs.Tests.{not-both}
+use Rattle.definition.specs.declared.Definition.{Definition}
+use Rattle.nucleus.specs.Commands.{one-of}
+use Rattle.nucleus.specs.declared.Call.{Call}
+use Rattle.nucleus.specs.declared.Command.{Command}
+use Rattle.nucleus.specs.declared.Command.the-variants.{Hi, Ri, L1, L4, A1, E1, N1, N2, Et, Bt, Re, Op, Cl}
+use Rattle.shares.specs.declared.Share.{Share}
+use Rattle.codes.proofs.Groups.{in-group}
+use Rattle.calls.specs.Commands.{in-file, about-file, performed}
+use Rattle.calls.proofs.perform.Statement.{statement}
+use Rattle.calls.proofs.perform.Tie as tie
+use Rattle.calls.proofs.perform.Reads as reads
+use Rattle.calls.proofs.perform.Lts as lts
+use Rattle.calls.proofs.in_file.Reads as in-file-reads
+use Rattle.calls.proofs.ri.Reads as ri-reads
+use Rattle.layout.proofs.image_length.Reads as image-length-reads
+use Rattle.release.proofs.bt.Reads as bt-reads
+use Rattle.release.proofs.et.Reads as et-reads
+use Rattle.sessions.proofs.cl.Reads as cl-reads
+use Rattle.sessions.proofs.op.Reads as op-reads
+use Rattle.sessions.proofs.re.Reads as re-reads
+
+-- the commands about a file, but RI
+abbrev files : List Command
+files = Hi ∷ L1 ∷ L4 ∷ A1 ∷ E1 ∷ N1 ∷ N2 ∷ []
+
+module _ (call : Call) (most clock : ℕ) (x : Share) (d : Definition) (store queue images format buffer : List ℕ) where
+  of-file : (c : Command) → one-of files c ≡ true → performed call most clock x d store queue images format buffer c ≡ about-file call most clock x d store queue images format buffer c
+  unfolding performed
+  of-file Hi h = refl
+  of-file Ri h = not-both false h refl
+  of-file L1 h = refl
+  of-file L4 h = refl
+  of-file A1 h = refl
+  of-file E1 h = refl
+  of-file N1 h = refl
+  of-file N2 h = refl
+  of-file Et h = not-both false h refl
+  of-file Bt h = not-both false h refl
+  of-file Re h = not-both false h refl
+  of-file Op h = not-both false h refl
+  of-file Cl h = not-both false h refl
+
+enum-told : tie.Need-enum-told
+enum-told c = search needs
+
+image-length-requires : tie.Need-image-length-requires
+image-length-requires c κs = search needs
+
+et-requires : tie.Need-et-requires
+et-requires c κs = search needs
+
+enum-told-2 : tie.Need-enum-told-2
+enum-told-2 c = search needs
+
+image-length-requires-2 : tie.Need-image-length-requires-2
+image-length-requires-2 c κs = search needs
+
+bt-requires : tie.Need-bt-requires
+bt-requires c κs = search needs
+
+enum-told-3 : tie.Need-enum-told-3
+enum-told-3 c = search needs
+
+re-requires : tie.Need-re-requires
+re-requires c κs = search needs
+
+enum-told-4 : tie.Need-enum-told-4
+enum-told-4 c = search needs
+
+op-requires : tie.Need-op-requires
+op-requires c κs = search needs
+
+enum-told-5 : tie.Need-enum-told-5
+enum-told-5 c = search needs
+
+cl-requires : tie.Need-cl-requires
+cl-requires c κs = search needs
+
+enum-told-6 : tie.Need-enum-told-6
+enum-told-6 c = search needs
+
+ri-requires : tie.Need-ri-requires
+ri-requires c κs = search needs
+
+in-file-requires : tie.Need-in-file-requires
+in-file-requires c κs = search needs
+
+same-length : tie.Need-same-length
+same-length c = search needs
+
+same-length-2 : tie.Need-same-length-2
+same-length-2 c = search needs
+
+same-length-3 : tie.Need-same-length-3
+same-length-3 c = search needs
+
+returns : tie.Need-returns
+unfolding performed
+returns c =
+    let e = c .before .before .before .before in
+    rw (c .before .before .before .before .before .before .before .before .before .enum-told .given .1, e .et .ensures .0, e .et .ensures .1 .0, e .et .ensures .1 .1, c .before .before .before .before .before .before .before .before .image-length .ensures)
+
+same-length-4 : tie.Need-same-length-4
+same-length-4 c = search needs
+
+same-length-5 : tie.Need-same-length-5
+same-length-5 c = search needs
+
+same-length-6 : tie.Need-same-length-6
+same-length-6 c = search needs
+
+returns-2 : tie.Need-returns-2
+unfolding performed
+returns-2 c =
+    let b = c .before .before .before .before .before .before in
+    rw (c .before .before .before .before .before .before .before .before .before .before .before .enum-told2 .given .1, b .bt .ensures .0, b .bt .ensures .1 .0, b .bt .ensures .1 .1 .0, b .bt .ensures .1 .1 .1, c .before .before .before .before .before .before .before .before .before .before .image-length2 .ensures)
+
+same-length-7 : tie.Need-same-length-7
+same-length-7 c = search needs
+
+returns-3 : tie.Need-returns-3
+unfolding performed
+returns-3 c = rw (c .before .before .before .before .enum-told3 .given .1, c .before .before .re .ensures .0, c .before .before .re .ensures .1)
+
+returns-4 : tie.Need-returns-4
+unfolding performed
+returns-4 c = rw (c .before .enum-told4 .given .1, c .op .ensures)
+
+returns-5 : tie.Need-returns-5
+unfolding performed
+returns-5 c = rw (c .before .enum-told5 .given .1, c .cl .ensures)
+
+same-length-8 : tie.Need-same-length-8
+same-length-8 c = search needs
+
+same-length-9 : tie.Need-same-length-9
+same-length-9 c = search needs
+
+same-length-10 : tie.Need-same-length-10
+same-length-10 c = search needs
+
+same-length-11 : tie.Need-same-length-11
+same-length-11 c = search needs
+
+returns-6 : tie.Need-returns-6
+unfolding performed
+returns-6 c = rw (c .before .before .before .before .before .before .before .before .before .before .before .before .before .enum-told6 .given .1) (c .before .before .before .before .before .before .before .before .ri .ensures)
+
+same-length-12 : tie.Need-same-length-12
+same-length-12 c = search needs
+
+same-length-13 : tie.Need-same-length-13
+same-length-13 c = search needs
+
+same-length-14 : tie.Need-same-length-14
+same-length-14 c = search needs
+
+same-length-15 : tie.Need-same-length-15
+same-length-15 c = search needs
+
+returns-7 : tie.Need-returns-7
+unfolding performed
+returns-7 c =
+    let a = c .before .before .before .before .before .before .before .before .before .before .before .before .before .before .before .before .before .before .before .args in
+    let there = in-group files (a .command) (c .before .before .before .before .before .before .before .before .before .before .before .before .before .match .keys7) in
+    c .before .before .before .before .before .before .before .before .in-file .ensures ∙ ap (λ at. in-file (a .call) (a .most) (a .clock) (a .share) (a .d) (a .store .now) (a .queue .now) (a .images .now) (a .format .now) (a .buffer .now) at (a .command)) (c .before .before .before .before .before .before .before .before .before .before .before .before .before .before .before .before .before .before .before .pre .0)
+    ∙ sym (of-file (a .call) (a .most) (a .clock) (a .share) (a .d) (a .store .now) (a .queue .now) (a .images .now) (a .format .now) (a .buffer .now) (a .command) (sym there))
+
+pub perform-spec : {M : Type 1} → statement M
+perform-spec =
+    tie.close
+    (tie.spec
+    enum-told
+    image-length-requires
+    et-requires
+    enum-told-2
+    image-length-requires-2
+    bt-requires
+    enum-told-3
+    re-requires
+    enum-told-4
+    op-requires
+    enum-told-5
+    cl-requires
+    enum-told-6
+    ri-requires
+    in-file-requires
+    same-length
+    same-length-2
+    same-length-3
+    returns
+    same-length-4
+    same-length-5
+    same-length-6
+    returns-2
+    same-length-7
+    returns-3
+    returns-4
+    returns-5
+    same-length-8
+    same-length-9
+    same-length-10
+    same-length-11
+    returns-6
+    same-length-12
+    same-length-13
+    same-length-14
+    same-length-15
+    returns-7)

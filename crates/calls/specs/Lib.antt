@@ -1,0 +1,4 @@
+pub mod Outcome
+pub mod Commands
+pub mod Laws
+pub mod StepLaws

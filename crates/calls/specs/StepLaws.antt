@@ -1,0 +1,140 @@
+-- The ways that a call can go, from its first row to its command.
+-- Assumes nothing.
+use Prim.Native.Nat.{ℕ, _-_, _≤_}
+use mathlib.Core.Path.{_≡_, sym, ap, _∙_}
+use mathlib.Core.Bool.{true, false, not}
+use mathlib.Core.List.{List, [], _∷_}
+use mathlib.Core.Option.{none, some}
+use lib.ListN.{length, getD, set}
+use borrow.Author.Tests.{not-false}
+use Rattle.definition.specs.Table.{file-at}
+use Rattle.definition.specs.Shape.{DefinitionShape}
+use Rattle.definition.specs.declared.Definition.{Definition}
+use Rattle.records.specs.Records.{record-length}
+use Rattle.records.specs.declared.Found.the-variants.{At}
+use Rattle.layout.specs.Layout.{place}
+use Rattle.layout.specs.Laws.{place-found}
+use Rattle.validity.specs.Validity.{valid}
+use Rattle.validity.specs.Laws.{valid-at}
+use Rattle.nucleus.specs.Commands.{commands, command-of}
+use Rattle.nucleus.specs.Users.{fresh-user}
+use Rattle.nucleus.specs.Nucleus.{Nucleus, nucleus, request, result, beyond-data}
+use Rattle.nucleus.specs.Target.{assigned-in}
+use Rattle.nucleus.specs.Clock.{clocked}
+use Rattle.nucleus.specs.WellMade.{too-short, well-made}
+use Rattle.nucleus.specs.Rows.{Row, row, first-cause, rows-usable, rows-understood}
+use Rattle.nucleus.specs.Step.{turned-away, let-in, admitted-user, admitted, refusal, perform, step}
+use Rattle.nucleus.specs.declared.Call.{Call}
+use Rattle.nucleus.specs.declared.Command.{Command}
+use Rattle.nucleus.specs.declared.EtData.{EtData}
+use Rattle.nucleus.specs.declared.Response.{Response}
+use Rattle.nucleus.specs.declared.Response.the-variants.{BufferTooShort, StateInvalid}
+use Rattle.nucleus.specs.declared.State.{State}
+use Rattle.nucleus.specs.declared.User.{User}
+use Rattle.shares.specs.Shares.{share, assigned-with, with-share}
+use Rattle.shares.specs.Chains.{max-scratch}
+use Rattle.shares.specs.Laws.{row-passed}
+use Rattle.shares.specs.declared.Done.{Done}
+use Rattle.overdue.specs.Parts.{parts}
+use Rattle.shares.specs.declared.Verdict.{Verdict}
+use Rattle.shares.specs.declared.Verdict.the-variants.{Passed, Refused}
+use Rattle.admission.specs.Admission.{understood-as, admission-of}
+use Rattle.admission.specs.Laws.{Plain, understood-plain}
+use Rattle.admission.specs.declared.Understood.the-variants.{As}
+use Rattle.calls.specs.Commands.{left, performed}
+use Rattle.calls.specs.Laws.{left-on, performed-on, performed-is}
+
+-- ---- what a nucleus that is usable has
+module _ (capacity : ℕ) (n : Nucleus) (usable : first-cause (rows-usable capacity n) ≡ none) where
+  abbrev rest : List Row
+  rest = row BufferTooShort (too-short (n .state .definition) capacity (n .store) (n .queue) (n .images)) ∷ row StateInvalid (not (well-made capacity n)) ∷ []
+
+  valid-first : not (valid (n .state .definition)) ≡ false
+  unfolding rows-usable
+  valid-first = row-passed (row StateInvalid (not (valid (n .state .definition)))) rest usable
+
+  pub usable-valid : valid (n .state .definition) ≡ true
+  usable-valid = not-false (valid (n .state .definition)) valid-first
+
+  pub usable-long : too-short (n .state .definition) capacity (n .store) (n .queue) (n .images) ≡ false
+  unfolding rows-usable
+  usable-long = row-passed (row BufferTooShort (too-short (n .state .definition) capacity (n .store) (n .queue) (n .images))) (row StateInvalid (not (well-made capacity n)) ∷ []) (rw valid-first at usable)
+
+-- a new record of a valid table's file has its room
+pub small-record : (d : Definition) → DefinitionShape d → valid d ≡ true → (file i : ℕ) → place d file ≡ At i → record-length (file-at d i) ≤ max-scratch
+small-record d s v file i there = valid-at d s v i (place-found d s file i there .0) .length-most
+
+-- ---- a call
+module _ (capacity : ℕ) (call : Call) (format buffer : List ℕ) (n : Nucleus) where
+  -- 12 and 11
+  pub step-unusable : (cause : Response) → first-cause (rows-usable capacity n) ≡ some cause → step capacity call format buffer n ≡ refusal buffer n cause
+  unfolding step admitted
+  step-unusable cause e = rw e
+
+  module _ (usable : first-cause (rows-usable capacity n) ≡ none) where
+    -- 22 and 72
+    pub step-misunderstood : (cause : Response) → first-cause (rows-understood commands call) ≡ some cause → step capacity call format buffer n ≡ refusal buffer n cause
+    unfolding step admitted
+    step-misunderstood cause e = rw (usable, e)
+
+    module _ (c : Command) (understood : first-cause (rows-understood commands call) ≡ none) (known : command-of commands (call .command) ≡ some c) (m : Nucleus) where
+      -- 9 and 29
+      pub step-turned : (cause : Response) → admitted-user c call (clocked (call .clock) n) ≡ turned-away cause m → step capacity call format buffer n ≡ refusal buffer m cause
+      unfolding step admitted
+      step-turned cause e = rw (usable, understood, known, e)
+
+      pub step-let-in : admitted-user c call (clocked (call .clock) n) ≡ let-in c m → step capacity call format buffer n ≡ perform (request capacity c call format buffer) m
+      unfolding step admitted
+      step-let-in e = rw (usable, understood, known, e)
+
+      -- the command, over its share
+      pub step-performed : admitted-user c call (clocked (call .clock) n) ≡ let-in c m → capacity ≤ length (m .queue) → DefinitionShape (m .state .definition) → valid (m .state .definition) ≡ true
+          → step capacity call format buffer n ≡ left-on capacity call format buffer m (performed-on capacity call format buffer m c)
+      step-performed e long shape v =
+          step-let-in e ∙ performed-is capacity call format buffer m long (small-record (m .state .definition) shape v (call .file)) c
+
+-- ---- a call on a state, by the parts that code has in hand
+module _ (capacity : ℕ) (call : Call) (format buffer : List ℕ) (s : State) (store queue images : List ℕ) where
+  abbrev begun : Nucleus
+  begun = nucleus s store queue images
+
+  -- the state that the command left
+  abbrev pub left-state : ℕ → List User → Done → List ℕ → State
+  left-state clock users d isns = record {
+    definition = s .definition;
+    clock = clock;
+    users = set users (call .user - 1) (d .share .user);
+    «et_data» = set (s .«et_data») (call .user - 1) (d .share .«et_data»);
+    «last_assigned» = isns;
+    count = d .share .count;
+  }
+
+  -- after the clock, the back-outs and the session
+  module _ (clock : ℕ) (users : List User) (count : ℕ) (store′ queue′ images′ : List ℕ) where
+    abbrev admitted-to : Nucleus
+    admitted-to = parts (s .definition) clock users (s .«et_data») (s .«last_assigned») count store′ queue′ images′
+
+    module _ (c : Command) (usable : first-cause (rows-usable capacity begun) ≡ none) (understood : understood-as commands call ≡ As c) where
+      abbrev plain : Plain commands call c
+      plain = understood-plain commands call c understood
+
+      abbrev Judged : Verdict → Type 0
+      Judged v = admitted-user c call (clocked (call .clock) begun) ≡ admission-of v c admitted-to
+
+      pub refused-through : (v : Verdict) (cause : Response) → Judged v → v ≡ Refused cause → refusal buffer admitted-to cause ≡ step capacity call format buffer begun
+      refused-through v cause e told =
+          sym (step-turned capacity call format buffer begun usable c (plain .passed) (plain .known) admitted-to cause (e ∙ ap (λ w. admission-of w c admitted-to) told))
+
+      -- the share, and what the command left
+      pub performed-through : (v : Verdict) → Judged v → v ≡ Passed → capacity ≤ length queue′ → DefinitionShape (s .definition)
+          → (user : User) (held : EtData) (assigned : ℕ) → user ≡ getD users (call .user - 1) fresh-user → held ≡ getD (s .«et_data») (call .user - 1) beyond-data
+          → assigned ≡ assigned-in (s .«last_assigned») (place (s .definition) (call .file))
+          → (d : Done) (store″ queue″ images″ buffer″ : List ℕ)
+          → left d store″ queue″ images″ buffer″ ≡ performed call capacity clock (share user held assigned count) (s .definition) store′ queue′ images′ format buffer c
+          → (isns : List ℕ) → isns ≡ assigned-with (s .«last_assigned») (place (s .definition) (call .file)) (d .share .«last_assigned»)
+          → result (d .answer) (nucleus (left-state clock users d isns) store″ queue″ images″) buffer″ ≡ step capacity call format buffer begun
+      unfolding with-share
+      performed-through v e told long shape user held assigned same-user same-data same-assigned d store″ queue″ images″ buffer″ made isns same-isns =
+          ap (λ given. result (d .answer) (nucleus (left-state clock users d given) store″ queue″ images″) buffer″) same-isns
+          ∙ ap (left-on capacity call format buffer admitted-to) (made ∙ ap (λ x. performed call capacity clock x (s .definition) store′ queue′ images′ format buffer c) (λ i. share (same-user i) (same-data i) (same-assigned i) count))
+          ∙ sym (step-performed capacity call format buffer begun usable c (plain .passed) (plain .known) admitted-to (e ∙ ap (λ w. admission-of w c admitted-to) told) long shape (usable-valid capacity begun usable))

@@ -1,0 +1,33 @@
+-- `code_at` meets its contract: the table as the code has it is the definition's, at each place.
+-- Assumes nothing.
+use Prim.Native.Nat.{_<_, _≤_}
+use mathlib.Core.Path.{sym, _∙_}
+use mathlib.Core.List.{[], _∷_, map}
+use lib.ListN.{List·getD-eq-default}
+use borrow.Author.Needs.{needs}
+use Rattle.nucleus.specs.Commands.{commands, code, code-at}
+use Rattle.nucleus.specs.declared.Command.the-variants.{Hi}
+use Rattle.codes.specs.Laws.{mapped-at, code-here}
+use Rattle.codes.proofs.code_at.Statement.{statement}
+use Rattle.codes.proofs.code_at.Tie as tie
+
+mul-result : tie.Need-mul-result
+mul-result c = search needs
+
+array-copy-out-result : tie.Need-array-copy-out-result
+array-copy-out-result c = search needs
+
+returns : tie.Need-returns
+returns c =
+    let place = c .before .before .args .place in
+    let inside : place < 13 = search needs in
+    mapped-at code commands place Hi [] inside ∙ sym (code-here place inside)
+
+returns-2 : tie.Need-returns-2
+unfolding code-at
+returns-2 c =
+    let past : 13 ≤ c .before .args .place = search needs in
+    sym (List·getD-eq-default (map code commands) (0 ∷ 0 ∷ []) past)
+
+pub code-at-spec : {M : Type 1} → statement M
+code-at-spec = tie.close (tie.spec mul-result array-copy-out-result returns returns-2)

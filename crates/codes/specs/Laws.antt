@@ -1,0 +1,48 @@
+-- What stands at a place of the table of commands, and what is left of a search there.
+-- Assumes nothing.
+use Prim.Native.Nat.{ℕ, zero, suc, _+_, _≤_, _<_}
+use native.Mathlib.Nat.{le-of-suc-le-suc, not-suc-le-zero}
+use mathlib.Core.Path.{_≡_, refl}
+use mathlib.Core.Bool.{true, false}
+use mathlib.Core.List.{List, [], _∷_, map}
+use mathlib.Core.Option.{none, some}
+use lib.ListN.{length, drop, getD, drop-of-length-le}
+use Rattle.lists.specs.Tests.{eqbs}
+use Rattle.lists.specs.Rest.{drop-more}
+use Rattle.nucleus.specs.Commands.{commands, code, code-at, command-of}
+use Rattle.nucleus.specs.declared.Command.{Command}
+use Rattle.nucleus.specs.declared.Command.the-variants.{Hi}
+use Rattle.codes.specs.Codes.{command-at}
+use Rattle.codes.specs.declared.Decoded.the-variants.{Known, Unknown}
+
+-- ---- at a place
+-- what a function makes of a list, within it: no default is read
+pub mapped-at : {A B : Type 0} (f : A → B) (l : List A) (i : ℕ) (d : A) (e : B) → i < length l → getD (map f l) i e ≡ f (getD l i d)
+mapped-at f [] i d e h = absurd (not-suc-le-zero h)
+mapped-at f (x ∷ l) zero d e h = refl
+mapped-at f (x ∷ l) (suc i) d e h = mapped-at f l i d e (le-of-suc-le-suc h)
+
+abbrev pub listed : ℕ → Command
+listed i = getD commands i Hi
+
+pub code-here : (i : ℕ) → i < 13 → code-at i ≡ code (listed i)
+unfolding code-at
+code-here i h = mapped-at code commands i Hi (0 ∷ 0 ∷ []) h
+
+pub command-here : (i : ℕ) → i < 13 → command-at i ≡ Known (listed i)
+unfolding command-at
+command-here i h = mapped-at Known commands i Hi Unknown h
+
+-- ---- what is left of a search at the i-th of some commands
+module _ (letters : List ℕ) (cs : List Command) (i : ℕ) where
+  pub found-here : i < length cs → eqbs (code (getD cs i Hi)) letters ≡ true → command-of (drop i cs) letters ≡ some (getD cs i Hi)
+  unfolding command-of
+  found-here h t = rw (drop-more cs i Hi h, t)
+
+  pub found-later : i < length cs → eqbs (code (getD cs i Hi)) letters ≡ false → command-of (drop i cs) letters ≡ command-of (drop (i + 1) cs) letters
+  unfolding command-of
+  found-later h t = rw (drop-more cs i Hi h, t)
+
+  pub found-nowhere : length cs ≤ i → command-of (drop i cs) letters ≡ none
+  unfolding command-of
+  found-nowhere h = rw (drop-of-length-le cs h)

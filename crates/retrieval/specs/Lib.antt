@@ -1,0 +1,2 @@
+pub mod Retrieval
+pub mod Laws

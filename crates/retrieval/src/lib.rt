@@ -1,0 +1,134 @@
+// L1 reads; L4 holds and reads (document 01). What is read comes from the store as a part of it.
+ghost use mathlib.Core.Path.{_≡_};
+ghost use mathlib.Core.Bool.{true};
+ghost use mathlib.Core.List.{_∷_};
+ghost use Prim.Native.Nat.{_≤_};
+ghost use lib.ListN.{length};
+ghost use Rattle.elements.specs.Elements.{length-needed};
+ghost use Rattle.fields.specs.Fields.{read-fields};
+ghost use Rattle.store.specs.Store.{has-record, shown};
+ghost use Rattle.nucleus.specs.Rows.{first-cause};
+ghost use Rattle.shares.specs.Shares.{verdict};
+ghost use Rattle.shares.specs.Chains.{sought, row-other, row-there, rows-room};
+ghost use Rattle.shares.specs.Outcomes.{l1-done, l1-buffer, l4-done, l4-queue, l4-buffer};
+ghost use Rattle.retrieval.specs.Retrieval.{read-target};
+use definition::File;
+use nucleus::AT_OR_ABOVE;
+use nucleus::Call;
+use nucleus::Response;
+use search::Occupied;
+use shares::Done;
+use shares::Share;
+use shares::Verdict;
+
+// The ISN to read, or the cause that refuses it.
+enum Target {
+    At(u16),
+    Refused(Response),
+}
+
+// The ISN to read: the given one, or with option `I` the lowest at or above it that has a record.
+fn sought(call: Call, f: File, part: &[u8]) -> Occupied
+    ensures { λ r. ⌜ r ≡ sought call f (now (part .entry)) ⌝ }
+{
+    if call.option == AT_OR_ABOVE {
+        return search::lowest(f, part, call.isn);
+    }
+    Occupied::At(call.isn)
+}
+
+// 41, 53 and 3, and the ISN to read.
+fn read_target(call: Call, f: File, part: &[u8], format: &[u8], buffer: &[u8]) -> Target
+    ensures { λ r. ⌜ r ≡ read-target call f (now (part .entry)) (now (format .entry)) (now (buffer .entry)) ⌝ }
+{
+    let readable = formats::readable(f, format, buffer);
+    if let Verdict::Refused(cause) = readable {
+        return Target::Refused(cause);
+    }
+    let found = sought(call, f, part);
+    let Occupied::At(isn) = found else {
+        return Target::Refused(Response::NotFound);
+    };
+    Target::At(isn)
+}
+
+// Writes the named fields of the ISN's record at the front of the record buffer and answers how many bytes those are.
+fn read(f: File, part: &[u8], isn: u16, format: &[u8], buffer: &mut [u8]) -> usize
+    requires { ⌜ has-record f (now part) isn ≡ true ⌝ }
+    requires { ⌜ length-needed f (now format) ≤ length (now buffer) ⌝ }
+    ensures { λ r. ⌜ r ≡ length-needed f (now (format .entry)) ⌝ }
+    ensures { λ _. ⌜ now (buffer .exit) ≡ read-fields f (now (format .entry)) (shown f (now (part .entry)) isn) (now (buffer .entry)) ⌝ }
+{
+    let content = store::record_part(f, part, isn);
+    fields::read_fields(f, format, content, buffer)
+}
+
+// L1 looks at no hold.
+pub fn l1(call: Call, share: Share, f: File, part: &[u8], format: &[u8], buffer: &mut [u8]) -> Done
+    ensures { λ r. ⌜ r ≡ l1-done call share f (now (part .entry)) (now (format .entry)) (now (buffer .entry)) ⌝ }
+    ensures { λ _. ⌜ now (buffer .exit) ≡ l1-buffer call share f (now (part .entry)) (now (format .entry)) (now (buffer .entry)) ⌝ }
+{
+    let target = read_target(call, f, part, format, buffer);
+    let isn = match target {
+        Target::At(isn) => isn,
+        Target::Refused(cause) => return shares::refused(cause, share),
+    };
+    if !store::has_record(f, part, isn) {
+        return shares::refused(Response::Presence, share);
+    }
+    let quantity = read(f, part, isn, format, buffer);
+    shares::good(isn, quantity, 0, share)
+}
+
+// L4's rows of an ISN that it has: 145, 113, 47 and 70.
+fn holdable(
+    call: Call,
+    most: usize,
+    share: Share,
+    f: File,
+    part: &[u8],
+    queue: &[u64],
+    isn: u16,
+) -> Verdict
+    ensures { λ r. ⌜ r ≡ verdict (first-cause (row-other call share (now (queue .entry)) isn ∷ row-there f (now (part .entry)) isn ∷ rows-room call share (now (queue .entry)) most isn)) ⌝ }
+{
+    let found = queue::holder(queue, share.count, call.file, isn);
+    if holding::other_holds(found, call.user) {
+        return Verdict::Refused(Response::HeldByAnother);
+    }
+    if !store::has_record(f, part, isn) {
+        return Verdict::Refused(Response::Presence);
+    }
+    holding::room(call, share, queue, most, isn)
+}
+
+// L4 holds the ISN and reads.
+pub fn l4(
+    call: Call,
+    most: usize,
+    clock: u32,
+    share: Share,
+    f: File,
+    part: &[u8],
+    queue: &mut [u64],
+    format: &[u8],
+    buffer: &mut [u8],
+) -> Done
+    ensures { λ r. ⌜ r ≡ l4-done call share f (now (part .entry)) (now (format .entry)) (now (buffer .entry)) (now (queue .entry)) most clock ⌝ }
+    ensures { λ _. ⌜ now (queue .exit) ≡ l4-queue call share f (now (part .entry)) (now (format .entry)) (now (buffer .entry)) (now (queue .entry)) most ⌝ }
+    ensures { λ _. ⌜ now (buffer .exit) ≡ l4-buffer call share f (now (part .entry)) (now (format .entry)) (now (buffer .entry)) (now (queue .entry)) most ⌝ }
+{
+    let target = read_target(call, f, part, format, buffer);
+    let isn = match target {
+        Target::At(isn) => isn,
+        Target::Refused(cause) => return shares::refused(cause, share),
+    };
+    let verdict = holdable(call, most, share, f, part, queue, isn);
+    if let Verdict::Refused(cause) = verdict {
+        return shares::refused(cause, share);
+    }
+    // A record is there.
+    let held = holding::hold(call, clock, share, queue, isn, true);
+    let quantity = read(f, part, isn, format, buffer);
+    shares::good(isn, quantity, 0, held)
+}

@@ -1,0 +1,2 @@
+-- What proofs over a whole state cite.
+pub mod Known

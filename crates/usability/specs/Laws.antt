@@ -1,0 +1,94 @@
+-- What the rows of 11 and 12 come to, test by test.
+-- Assumes nothing.
+use Prim.Native.Nat.{ℕ}
+use mathlib.Core.Path.{_≡_}
+use mathlib.Core.Bool.{Bool, true, false, not, _&&_}
+use lib.Dec.{leb, ltb}
+use borrow.Author.Tests.{leb-true, leb-false, le-ltb, lt-ltb}
+use Rattle.lists.specs.Tests.{Outcome, holds, fails, outcome, and-false}
+use Rattle.lists.specs.Folds.{all}
+use Rattle.definition.specs.Table.{files-of}
+use Rattle.definition.specs.declared.Definition.{Definition}
+use Rattle.validity.specs.Validity.{valid}
+use Rattle.repeats.specs.Repeats.{repeated}
+use Rattle.nucleus.specs.Nucleus.{Nucleus, entries-of}
+use Rattle.nucleus.specs.WellMade.{too-short, well-made, entry-made, user-made, assigned-made, data-made}
+use Rattle.nucleus.specs.Rows.{first-cause, rows-usable}
+use Rattle.nucleus.specs.declared.Response.the-variants.{BufferTooShort, StateInvalid}
+use Rattle.shares.specs.Shares.{verdict}
+use Rattle.shares.specs.declared.Verdict.{Verdict}
+use Rattle.shares.specs.declared.Verdict.the-variants.{Passed, Refused}
+
+-- less is not at least
+pub less-is : (m n : ℕ) → ltb m n ≡ not (leb n m)
+less-is m n = go (outcome (leb n m))
+  where
+    go : Outcome (leb n m) → ltb m n ≡ not (leb n m)
+    go (holds t) = rw (t, le-ltb m n (leb-true n m t))
+    go (fails t) = rw (t, lt-ltb m n (leb-false n m t))
+
+fails-left : (a b : Bool) → a ≡ false → (a && b) ≡ false
+fails-left a b e = rw e
+
+fails-right : (a b : Bool) → b ≡ false → (a && b) ≡ false
+fails-right a b e = rw e (and-false a)
+
+module _ (capacity : ℕ) (n : Nucleus) where
+  abbrev d : Definition
+  d = n .state .definition
+
+  abbrev judged : Verdict
+  judged = verdict (first-cause (rows-usable capacity n))
+
+  abbrev short : Bool
+  short = too-short d capacity (n .store) (n .queue) (n .images)
+
+  -- ---- the rows, one after another
+  pub table-refused : valid d ≡ false → Refused StateInvalid ≡ judged
+  unfolding rows-usable
+  table-refused v = rw v
+
+  module _ (v : valid d ≡ true) where
+    pub sizes-refused : short ≡ true → Refused BufferTooShort ≡ judged
+    unfolding rows-usable
+    sizes-refused s = rw (v, s)
+
+    pub state-refused : short ≡ false → well-made capacity n ≡ false → Refused StateInvalid ≡ judged
+    unfolding rows-usable
+    state-refused s w = rw (v, s, w)
+
+    pub state-passed : short ≡ false → well-made capacity n ≡ true → Passed ≡ judged
+    unfolding rows-usable
+    state-passed s w = rw (v, s, w)
+
+  -- ---- the tests of the last row: each by itself makes a state badly made
+  pub too-many : leb (n .state .count) capacity ≡ false → well-made capacity n ≡ false
+  unfolding well-made
+  too-many e = search (fails-left, fails-right)
+
+  pub two-alike : repeated (entries-of n) ≡ true → well-made capacity n ≡ false
+  unfolding well-made
+  two-alike e = let f : not (repeated (entries-of n)) ≡ false = rw e in search (fails-left, fails-right)
+
+  pub entries-badly : all (entry-made (n .state)) (entries-of n) ≡ false → well-made capacity n ≡ false
+  unfolding well-made
+  entries-badly e = search (fails-left, fails-right)
+
+  pub users-badly : all (user-made (n .state .clock)) (n .state .users) ≡ false → well-made capacity n ≡ false
+  unfolding well-made
+  users-badly e = search (fails-left, fails-right)
+
+  pub assigned-badly : assigned-made (n .state .«last_assigned») (files-of d) ≡ false → well-made capacity n ≡ false
+  unfolding well-made
+  assigned-badly e = search (fails-left, fails-right)
+
+  pub data-badly : all data-made (n .state .«et_data») ≡ false → well-made capacity n ≡ false
+  unfolding well-made
+  data-badly e = search (fails-left, fails-right)
+
+  -- and all together make it well made
+  pub all-made : valid d ≡ true → leb (n .state .count) capacity ≡ true → repeated (entries-of n) ≡ false → all (entry-made (n .state)) (entries-of n) ≡ true
+      → all (user-made (n .state .clock)) (n .state .users) ≡ true → assigned-made (n .state .«last_assigned») (files-of d) ≡ true → all data-made (n .state .«et_data») ≡ true
+      → well-made capacity n ≡ true
+  unfolding well-made
+  all-made v c r e u a m = rw (v, c, r, e, u, a, m)
