@@ -1,0 +1,7 @@
+pub mod House
+pub mod Laws
+pub mod Digits
+pub mod Writing
+pub mod Tables
+pub mod Output
+mod Examples
