@@ -1,6 +1,7 @@
-//! Random states that nobody set up, good and bad, with lent buffers of any size; a call for each; and tables that may
-//! break a rule.
+//! Random states that nobody set up, good and bad, with lent buffers of any size; a call for each, aimed or not; and
+//! tables that may break a rule.
 
+use crate::aimed;
 use crate::definition::{self, Definition, Field, MAX_FIELDS, MAX_FILES};
 use crate::hold::Entry;
 use crate::machine::Machine;
@@ -18,6 +19,20 @@ pub fn machine(random: &mut Random) -> (Machine, bool) {
         spoil(random, &mut machine);
     }
     (machine, false)
+}
+
+/// A random machine, whether it was left well made, and a call. The call is aimed at what is there; or the machine is
+/// well made but for the user of one entry.
+pub fn aimed(random: &mut Random) -> (Machine, bool, ListCall) {
+    let mut machine = well_made_machine(random);
+    double_record(random, &mut machine);
+    let spoilt = random.once_in(3) && spoil_holder(random, &mut machine);
+    let aimed = match spoilt {
+        true => None,
+        false => aimed::call(random, &machine),
+    };
+    let list_call = aimed.unwrap_or_else(|| call(random, &machine));
+    (machine, !spoilt, list_call)
 }
 
 fn well_made_machine(random: &mut Random) -> Machine {
@@ -129,6 +144,55 @@ fn hold_some(random: &mut Random, machine: &mut Machine) {
     }
 }
 
+/// Lets two ISNs of a file have the same record, so that each unique value in it is there twice; in a file that has
+/// unique fields and others, if any.
+fn double_record(random: &mut Random, machine: &mut Machine) {
+    let definition = &machine.state.definition;
+    let is_mixed = |index: &usize| {
+        let file = &definition.files[*index];
+        let unique = file.used_fields().iter().filter(|field| field.is_unique());
+        file.max_isn > 1 && (1..file.used_fields().len()).contains(&unique.count())
+    };
+    let mixed: Vec<usize> = (0..definition.used_files().len())
+        .filter(is_mixed)
+        .collect();
+    let Some(index) = random.pick_any(&mixed) else {
+        return;
+    };
+    let one = random.between(1, u64::from(definition.files[index].max_isn) - 1) as u16;
+    let content = store::record(definition, &machine.store, index, one).to_vec();
+    for isn in [one, one + 1] {
+        store::put_record(definition, &mut machine.store, index, isn, &content);
+    }
+}
+
+/// Gives an entry to user 0, while user 1 is in a transaction; to a number above 32; or to a user in no transaction.
+/// Answers whether there was one.
+fn spoil_holder(random: &mut Random, machine: &mut Machine) -> bool {
+    let state = &mut machine.state;
+    if state.entries == 0 {
+        return false;
+    }
+    let place = random.below(u64::from(state.entries)) as usize;
+    let idle: Vec<u8> = (1u8..)
+        .zip(&state.users)
+        .filter(|(_, user)| !user.in_transaction)
+        .map(|(number, _)| number)
+        .collect();
+    let holder = match random.below(3) {
+        0 => {
+            state.users[0].session = true;
+            state.users[0].in_transaction = true;
+            state.users[0].begun = state.clock;
+            0
+        }
+        1 => random.pick(&[33, 255]),
+        _ => random.pick_any(&idle).unwrap_or(0),
+    };
+    machine.queue[place].user = holder;
+    true
+}
+
 /// Changes one thing, which may or may not break a rule.
 fn spoil(random: &mut Random, machine: &mut Machine) {
     let place = random.below(machine.queue.len() as u64 + 1) as usize;
@@ -175,6 +239,7 @@ fn repeat_entry(random: &mut Random, machine: &mut Machine) {
     }
 }
 
+/// A call that looks at little.
 pub fn call(random: &mut Random, machine: &Machine) -> ListCall {
     let files = machine.state.definition.used_files();
     let number = match files {

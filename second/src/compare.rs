@@ -1,7 +1,6 @@
 //! Runs a list beside the journal and checks requirement 3, and a few cheap truths after each call.
 
 use crate::fields;
-use crate::hold::Entry;
 use crate::journal::{Journal, Records};
 use crate::machine::Machine;
 use crate::random::{List, ListCall};
@@ -244,7 +243,7 @@ fn bt_of(user: u8) -> Call {
 }
 
 /// The values of the unique fields that a call judges, in stored form, with their places in a record.
-fn judged_values(machine: &Machine, list_call: &ListCall) -> Vec<(Range<usize>, Vec<u8>)> {
+pub fn judged_values(machine: &Machine, list_call: &ListCall) -> Vec<(Range<usize>, Vec<u8>)> {
     let files = machine.state.definition.used_files();
     let Some(file) = files.iter().find(|file| file.number == list_call.call.file) else {
         return Vec::new();
@@ -264,19 +263,17 @@ fn judged_values(machine: &Machine, list_call: &ListCall) -> Vec<(Range<usize>, 
         .collect()
 }
 
-fn entries(machine: &Machine) -> &[Entry] {
-    &machine.queue[..machine.state.entries as usize]
-}
-
 fn held(machine: &Machine, user: u8) -> usize {
-    entries(machine)
+    machine
+        .entries()
         .iter()
         .filter(|entry| entry.user == user)
         .count()
 }
 
 fn holder(machine: &Machine, file: u8, isn: u16) -> Option<u8> {
-    entries(machine)
+    machine
+        .entries()
         .iter()
         .find(|entry| entry.file == file && entry.isn == isn)
         .map(|entry| entry.user)

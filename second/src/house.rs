@@ -4,11 +4,14 @@ use crate::definition;
 use crate::machine::Machine;
 use crate::state::{Answer, Call, Command, COMMANDS};
 
-const STORE: usize = 32768;
-const CAPACITY: u32 = 64;
+pub const STORE: usize = 32768;
+pub const CAPACITY: u32 = 64;
 const BODY: usize = 64;
 const FORMAT: usize = 16;
 const RECORD: usize = 35;
+/// Where a call's format length and record length are, its kind byte at 0.
+pub const FORMAT_LENGTH: usize = 12;
+pub const RECORD_LENGTH: usize = 29;
 /// The greatest width is 512, so no table needs more.
 const IMAGES: usize = CAPACITY as usize * definition::MAX_RECORD_LENGTH;
 
@@ -73,6 +76,27 @@ fn read_body(command: [u8; 2], body: &[u8]) -> Option<Request<'_>> {
         format: format.get(..usize::from(body[11]))?,
         record: record.get(..usize::from(body[28]))?,
     })
+}
+
+/// The bytes of a call; none where the command is unknown or a buffer is too long.
+pub fn call_bytes(call: &Call, format: &[u8], record: &[u8]) -> Option<Vec<u8>> {
+    if format.len() > FORMAT || record.len() > RECORD {
+        return None;
+    }
+    let place = COMMANDS
+        .iter()
+        .position(|(_, code)| *code == call.command)?;
+    let mut bytes = vec![place as u8 + 1, call.user, call.option, call.file];
+    bytes.extend(call.isn.to_be_bytes());
+    bytes.extend(call.limit.to_be_bytes());
+    bytes.extend(call.clock.to_be_bytes());
+    bytes.push(format.len() as u8);
+    bytes.extend(format);
+    bytes.resize(RECORD_LENGTH, 0);
+    bytes.push(record.len() as u8);
+    bytes.extend(record);
+    bytes.resize(1 + BODY, 0);
+    Some(bytes)
 }
 
 fn answer_line(machine: &mut Machine, request: Request) -> String {

@@ -66,6 +66,11 @@ impl Machine {
         )
     }
 
+    /// The entries in use, of a state that is well made.
+    pub fn entries(&self) -> &[Entry] {
+        &self.queue[..self.state.entries as usize]
+    }
+
     /// The users in a transaction, rising.
     pub fn in_transaction(&self) -> Vec<u8> {
         (1u8..)

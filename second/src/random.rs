@@ -1,7 +1,11 @@
 //! Random call lists by seed, biased to collide: few users, few ISNs, tiny limits, few values, clocks that jump and run
-//! backwards, malformed buffers, unknown commands.
+//! backwards, malformed buffers, unknown commands. A list is made beside a nucleus that runs it, so that some of its
+//! calls are aimed at what is there.
 
+use crate::aimed;
+use crate::compare;
 use crate::definition::{self, Definition, Field, File};
+use crate::machine::Machine;
 use crate::state::{Call, COMMANDS};
 use crate::store;
 
@@ -40,6 +44,14 @@ impl Random {
         items[self.below(items.len() as u64) as usize]
     }
 
+    /// One of the items; none where there are none.
+    pub fn pick_any<T: Copy>(&mut self, items: &[T]) -> Option<T> {
+        match items {
+            [] => None,
+            _ => Some(self.pick(items)),
+        }
+    }
+
     pub fn bytes(&mut self, length: usize) -> Vec<u8> {
         (0..length).map(|_| self.number() as u8).collect()
     }
@@ -65,6 +77,15 @@ pub struct List {
     pub calls: Vec<ListCall>,
 }
 
+/// How many calls of a list have a command and an option by turn. In 22 lists with seeds in a row each command comes
+/// with each option.
+const TURNS: u64 = 3;
+
+/// The options that are named for some command, the blank, and bytes that are no option.
+fn options(random: &mut Random) -> [u8; 5] {
+    [b' ', b'I', b'H', b'A', random.pick(&[0, b'h', b'X', b'R'])]
+}
+
 /// The list of a seed.
 pub fn list(seed: u64) -> List {
     let random = &mut Random::new(seed);
@@ -72,23 +93,45 @@ pub fn list(seed: u64) -> List {
     let Some(definition) = definition::read_table(&table) else {
         unreachable!("a random table is valid");
     };
-    let capacity = random.between(1, 6) as u32;
+    let capacity = random.pick(&[1, 2, 3, 4, 5, 6, 8]);
     let spare = random.below(3) as usize;
-    let mut clock = 0;
-    let length = random.between(10, 60);
-    let users = random.between(1, 4);
-    let calls = (0..length)
-        .map(|_| list_call(random, &definition, users, &mut clock))
-        .collect();
-    List {
+    let mut list = List {
         seed,
         capacity,
         store: store::store_size(&definition) + spare,
         queue: capacity as usize + spare,
         images: capacity as usize * definition.greatest_record_length() + spare,
         table,
-        calls,
+        calls: Vec::new(),
+    };
+    add_calls(random, &mut list);
+    list
+}
+
+/// Makes the calls of a list, one after the other, and runs them.
+fn add_calls(random: &mut Random, list: &mut List) {
+    let Ok(mut machine) = compare::machine(list) else {
+        unreachable!("the table is valid and the buffers are large enough");
+    };
+    let mut clock = 0;
+    let length = random.between(10, 60);
+    let users = random.between(1, 4);
+    for place in 0..length {
+        let mut list_call = list_call(random, &machine, users, &mut clock);
+        if let Some(turn) = turn_at(place, length) {
+            let turn = list.seed.wrapping_mul(TURNS).wrapping_add(turn) as usize;
+            list_call.call.command = COMMANDS[turn % COMMANDS.len()].1;
+            list_call.call.option = options(random)[turn % 5];
+        }
+        let mut record = list_call.record.clone();
+        machine.call(&list_call.call, &list_call.format, &mut record);
+        list.calls.push(list_call);
     }
+}
+
+/// The number of the turn that is at this place of a list: they are spread over it.
+fn turn_at(place: u64, length: u64) -> Option<u64> {
+    (0..TURNS).find(|turn| (turn + 1) * length / (TURNS + 1) == place)
 }
 
 /// A valid table of 1 to 3 files with 1 to 5 ISNs and 1 to 4 fields.
@@ -108,13 +151,22 @@ pub fn table(random: &mut Random) -> Vec<u8> {
     table
 }
 
-fn list_call(
-    random: &mut Random,
-    definition: &Definition,
-    users: u64,
-    clock: &mut u32,
-) -> ListCall {
+fn list_call(random: &mut Random, machine: &Machine, users: u64, clock: &mut u32) -> ListCall {
     *clock = next_clock(random, *clock);
+    let aimed = match random.once_in(2) {
+        true => aimed::call(random, machine),
+        false => None,
+    };
+    let mut list_call = match aimed {
+        Some(list_call) => list_call,
+        None => any_call(random, &machine.state.definition, users),
+    };
+    list_call.call.clock = *clock;
+    list_call
+}
+
+/// A call that looks at nothing but the definition.
+fn any_call(random: &mut Random, definition: &Definition, users: u64) -> ListCall {
     let command = command(random);
     let index = random.below(u64::from(definition.count)) as usize;
     let file = &definition.files[index];
@@ -126,7 +178,7 @@ fn list_call(
         file: file_number(random, file),
         isn: isn(random, file, command),
         limit: random.pick(&[0, 1, 1, 2, 3, 10, 900]),
-        clock: *clock,
+        clock: 0,
     };
     let format = format(random, file, &elements);
     let record = record(random, file, command, &elements);
@@ -149,13 +201,15 @@ fn next_clock(random: &mut Random, clock: u32) -> u32 {
     }
 }
 
-/// The commands that change come more often, and ET, so that there are records to change; a few are unknown.
+/// The commands that change come more often, and ET, so that there are records to change, and OP with its limits; a few
+/// are unknown.
 fn command(random: &mut Random) -> [u8; 2] {
     match random.below(100) {
         0..=1 => random.pick(&[*b"hi", *b"XX", *b"L9", *b"1A", [0, 0], [0xFF, 0xFF]]),
         2..=39 => random.pick(&[*b"N1", *b"N2", *b"N2", *b"A1"]),
         40..=59 => random.pick(&[*b"HI", *b"L4", *b"A1", *b"E1", *b"RI"]),
-        60..=69 => *b"ET",
+        60..=67 => *b"ET",
+        68..=69 => *b"OP",
         _ => random.pick(&COMMANDS).1,
     }
 }
@@ -167,7 +221,7 @@ fn option(random: &mut Random, command: [u8; 2]) -> u8 {
     match &command {
         b"A1" | b"E1" => random.pick(b"HH "),
         b"L1" | b"L4" => random.pick(b"I  "),
-        b"OP" => random.pick(b"A    "),
+        b"OP" => random.pick(b"A  "),
         _ => b' ',
     }
 }
@@ -215,14 +269,20 @@ fn elements(random: &mut Random, file: &File, command: [u8; 2]) -> Vec<usize> {
     elements
 }
 
-/// The format buffer of these fields, rarely malformed.
-fn format(random: &mut Random, file: &File, elements: &[usize]) -> Vec<u8> {
+/// The format buffer of these fields.
+pub fn format_of(file: &File, elements: &[usize]) -> Vec<u8> {
     let names: Vec<&[u8]> = elements
         .iter()
         .map(|index| &file.fields[*index].name[..])
         .collect();
     let mut format = names.join(&b',');
     format.push(b'.');
+    format
+}
+
+/// The same, rarely malformed.
+fn format(random: &mut Random, file: &File, elements: &[usize]) -> Vec<u8> {
+    let mut format = format_of(file, elements);
     if random.once_in(20) {
         malform(random, &mut format);
     }
@@ -250,16 +310,21 @@ fn record(random: &mut Random, file: &File, command: [u8; 2], elements: &[usize]
         b"RE" => return vec![0xEE; random.pick(&[0, 1, 2, 64, 80])],
         _ => {}
     }
-    let mut record: Vec<u8> = elements
-        .iter()
-        .flat_map(|index| value(random, &file.fields[*index]))
-        .collect();
+    let mut record = values(random, file, elements);
     match random.below(30) {
         0 => drop(record.pop()),
         1..=4 => record.push(0xEE),
         _ => {}
     }
     record
+}
+
+/// Values of these fields, one after another.
+pub fn values(random: &mut Random, file: &File, elements: &[usize]) -> Vec<u8> {
+    elements
+        .iter()
+        .flat_map(|index| value(random, &file.fields[*index]))
+        .collect()
 }
 
 /// One of few values, so that they meet; rarely one that is not allowed.

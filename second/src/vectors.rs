@@ -25,19 +25,31 @@ pub struct ExpectedCall {
     pub expected: String,
 }
 
+/// An item of a text: its line, from 1, its key and its value.
+pub type Item<'a> = (usize, &'a str, &'a str);
+
+/// The items of a text, one a line, without empty lines and comments; the error names the line.
+pub fn items(text: &str) -> impl Iterator<Item = Result<Item<'_>, String>> {
+    let lines = text.lines().map(str::trim).zip(1..);
+    lines
+        .filter(|(line, _)| !line.is_empty() && !line.starts_with('#'))
+        .map(|(line, place)| match line.split_once(':') {
+            Some((key, value)) => Ok((place, key, value.trim())),
+            None => Err(at(place, "no colon")),
+        })
+}
+
+/// An error with its line.
+pub fn at(place: usize, error: &str) -> String {
+    format!("line {place}: {error}")
+}
+
 /// Reads a vector file; the error names the line.
 pub fn read(text: &str) -> Result<Vec<Example>, String> {
     let mut examples: Vec<Example> = Vec::new();
-    for (place, line) in text.lines().enumerate() {
-        let at = |error: String| format!("line {}: {error}", place + 1);
-        let line = line.trim();
-        if line.is_empty() || line.starts_with('#') {
-            continue;
-        }
-        let (key, value) = line
-            .split_once(':')
-            .ok_or_else(|| at("no colon".to_string()))?;
-        read_item(&mut examples, place + 1, key, value.trim()).map_err(at)?;
+    for item in items(text) {
+        let (place, key, value) = item?;
+        read_item(&mut examples, place, key, value).map_err(|error| at(place, &error))?;
     }
     Ok(examples)
 }
@@ -117,6 +129,7 @@ fn read_argument(call: &mut ExpectedCall, key: &str, value: &str) -> Result<(), 
         "clock" => call.call.clock = number(value)?,
         "format" => call.format = value.as_bytes().to_vec(),
         "record" => call.record = bytes(value)?,
+        "text" => call.record = value.as_bytes().to_vec(),
         "length" => call.record = vec![0; number(value)?],
         _ => return Err(format!("unknown argument {key}")),
     }
@@ -136,7 +149,7 @@ fn one_byte(text: &str) -> Result<u8, String> {
     }
 }
 
-fn number<T: std::str::FromStr>(text: &str) -> Result<T, String> {
+pub fn number<T: std::str::FromStr>(text: &str) -> Result<T, String> {
     text.parse().map_err(|_| format!("{text} is no number"))
 }
 

@@ -295,15 +295,21 @@ fn r12_not() {
 
 // Random states
 
-/// Random calls on random states and buffers: no panic, and what must hold of each call.
+/// Random calls on random states and buffers, a third of them aimed: no panic, and what must hold of each call.
 #[test]
 fn random_states() {
     let mut random = Random::new(58);
     let mut refused = [0; 2];
     let mut done = 0;
-    for _ in 0..150_000 {
-        let (before, good) = any_state::machine(&mut random);
-        let list_call = any_state::call(&mut random, &before);
+    for place in 0..150_000 {
+        let (before, good, list_call) = match place % 3 {
+            0 => any_state::aimed(&mut random),
+            _ => {
+                let (before, good) = any_state::machine(&mut random);
+                let list_call = any_state::call(&mut random, &before);
+                (before, good, list_call)
+            }
+        };
         let mut after = before.clone();
         let mut record = list_call.record.clone();
         let answer = after.call(&list_call.call, &list_call.format, &mut record);

@@ -1,5 +1,6 @@
 //! The program `rows`: a law for each list, state and set-up, and every response number.
 
+use second::cases;
 use second::compare::REACHED;
 use std::process::Command;
 
@@ -20,8 +21,8 @@ fn lines_with(text: &str, part: &str) -> usize {
 fn laws_of_each_seed() {
     let (good, text) = output(&["7", "4"]);
     assert!(good);
-    assert_eq!(lines_with(&text, " = refl"), 4 * 7);
-    for name in ["list-7", "state-8-1", "set-up-10-3"] {
+    assert_eq!(lines_with(&text, " = refl"), 4 * 9);
+    for name in ["list-7", "state-8-1", "set-up-10-3", "aimed-9-2"] {
         assert_eq!(lines_with(&text, &format!("{name} = refl")), 1, "{name}");
     }
 }
@@ -31,7 +32,7 @@ fn lists_can_be_cut() {
     let (good, text) = output(&["7", "1", "5"]);
     assert!(good);
     assert_eq!(lines_with(&text, "    given (bytes"), 5);
-    assert!(text.ends_with("-- calls: 11\n"), "{text}");
+    assert!(text.ends_with("-- calls: 13\n"), "{text}");
 }
 
 #[test]
@@ -45,6 +46,27 @@ fn every_response_comes() {
             "{label}"
         );
     }
+}
+
+/// How often `-- case NAME: N` says that a case came.
+fn times(text: &str, case: &str) -> u64 {
+    text.lines()
+        .filter_map(|line| line.strip_prefix("-- case ")?.split_once(": "))
+        .find(|(name, _)| *name == case)
+        .map_or(0, |(_, times)| times.parse().expect(case))
+}
+
+/// The calls that `compare-definitions 1 50` compares have each case a few times, so that a definition that is wrong
+/// there is seen.
+#[test]
+fn every_case_comes() {
+    let (good, text) = output(&["1", "50"]);
+    assert!(good);
+    let rare: Vec<String> = cases::all()
+        .into_iter()
+        .filter(|case| times(&text, case) < 2)
+        .collect();
+    assert!(rare.is_empty(), "too rare: {rare:?}");
 }
 
 #[test]

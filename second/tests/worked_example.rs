@@ -52,25 +52,10 @@ fn the_seven_lines() {
     assert_eq!(house::run(&worked_example()), OUTPUT);
 }
 
+/// `tests/house_lists.rs` runs the program on the file.
 #[test]
-fn the_file_is_the_list() {
+fn the_files_are_the_list_and_its_lines() {
     let file = include_bytes!("../lists/worked-example");
     assert_eq!(file[..], worked_example());
-}
-
-#[test]
-fn the_program_prints_the_lines() {
-    use std::io::Write;
-    use std::process::{Command, Stdio};
-    let mut program = Command::new(env!("CARGO_BIN_EXE_partycall"))
-        .stdin(Stdio::piped())
-        .stdout(Stdio::piped())
-        .spawn()
-        .expect("start");
-    let mut input = program.stdin.take().expect("input");
-    input.write_all(&worked_example()).expect("write");
-    drop(input);
-    let output = program.wait_with_output().expect("output");
-    assert!(output.status.success());
-    assert_eq!(output.stdout, OUTPUT.as_bytes());
+    assert_eq!(include_str!("../lists/worked-example.out"), OUTPUT);
 }

@@ -1,21 +1,26 @@
 //! Calls and what this implementation makes of them, as an antt module of laws: the definitions of crates/nucleus
-//! compute the same. For each seed a random list, calls on states that nobody set up, and set-ups.
+//! compute the same. For each seed a random list, calls on states that nobody set up, and set-ups. The comments at the
+//! end say how often each response and each case came.
 
 use second::any_state;
 use second::arguments;
+use second::cases;
 use second::compare::{self, Counts};
 use second::definition;
 use second::hold::Entry;
+use second::machine::Machine;
 use second::nucleus;
-use second::random::{self, Random};
+use second::random::{self, ListCall, Random};
+use second::state::Answer;
 use second::store;
 use second::terms;
 use std::process::ExitCode;
 
 const USAGE: &str = "usage: rows FIRST COUNT [CALLS]";
 
-/// Single calls, and set-ups, for each seed.
+/// Single calls, and set-ups, for each seed; and single calls that are aimed at a rule.
 const SINGLES: usize = 3;
+const AIMED: usize = 2;
 
 /// What the printed terms mean, and the definitions that a law has to open.
 const HEADER: &str = include_str!("rows_header.txt");
@@ -36,42 +41,76 @@ fn main() -> ExitCode {
     arguments::exit_code(done.map(|text| print!("{text}")))
 }
 
-/// The laws of these seeds, of each list the first `calls` calls, and behind them how often each response came.
-fn module(first: u64, count: u64, calls: u64) -> Result<String, String> {
-    let mut text = HEADER.to_string();
-    let mut counts = Counts::new();
-    for number in 0..count {
-        let seed = first.wrapping_add(number);
-        text += &list_law(seed, calls, &mut counts)?;
-        let random = &mut Random::new(seed);
-        for place in 1..=SINGLES {
-            text += &state_law(&format!("state-{seed}-{place}"), random, &mut counts);
-            text += &set_up_law(&format!("set-up-{seed}-{place}"), random, &mut counts);
-        }
-    }
-    Ok(text + &counts_text(&counts))
+/// How often each response came, and each case.
+#[derive(Default)]
+struct Tally {
+    responses: Counts,
+    cases: Counts,
 }
 
-fn counts_text(counts: &Counts) -> String {
-    let responses: String = counts
-        .iter()
-        .map(|(label, count)| format!("-- response {label}: {count}\n"))
-        .collect();
-    format!("\n{responses}-- calls: {}\n", counts.values().sum::<u64>())
+impl Tally {
+    fn response(&mut self, label: String) {
+        *self.responses.entry(label).or_default() += 1;
+    }
+
+    /// Makes the call and counts what it was.
+    fn call(&mut self, machine: &mut Machine, list_call: &ListCall) -> (Answer, Vec<u8>) {
+        let before = machine.clone();
+        let mut record = list_call.record.clone();
+        let answer = machine.call(&list_call.call, &list_call.format, &mut record);
+        self.response(compare::label(machine, &list_call.call, &answer));
+        for case in cases::of(&before, machine, list_call, &answer) {
+            *self.cases.entry(case).or_default() += 1;
+        }
+        (answer, record)
+    }
+
+    fn text(&self) -> String {
+        let lines = |word: &str, counts: &Counts| -> String {
+            let line = |(label, count)| format!("-- {word} {label}: {count}\n");
+            counts.iter().map(line).collect()
+        };
+        let cases = lines("case", &self.cases);
+        let responses = lines("response", &self.responses);
+        let calls = self.responses.values().sum::<u64>();
+        format!("\n{cases}{responses}-- calls: {calls}\n")
+    }
+}
+
+/// The laws of these seeds, of each list the first `calls` calls, and behind them what came how often.
+fn module(first: u64, count: u64, calls: u64) -> Result<String, String> {
+    let mut text = HEADER.to_string();
+    let tally = &mut Tally::default();
+    for number in 0..count {
+        let seed = first.wrapping_add(number);
+        text += &list_law(seed, calls, tally)?;
+        let random = &mut Random::new(seed);
+        for place in 1..=SINGLES {
+            let (machine, _) = any_state::machine(random);
+            let list_call = any_state::call(random, &machine);
+            text += &state_law(&format!("state-{seed}-{place}"), machine, &list_call, tally);
+            text += &set_up_law(&format!("set-up-{seed}-{place}"), random, tally);
+        }
+        for place in 1..=AIMED {
+            let (machine, _, list_call) = any_state::aimed(random);
+            text += &state_law(&format!("aimed-{seed}-{place}"), machine, &list_call, tally);
+        }
+    }
+    Ok(text + &tally.text())
 }
 
 fn law(name: &str, computed: &str, expected: &str) -> String {
     format!("\n{name} :\n  {computed}\n  ≡ {expected}\n{UNFOLDING}{name} = refl\n")
 }
 
-fn list_law(seed: u64, calls: u64, counts: &mut Counts) -> Result<String, String> {
+fn list_law(seed: u64, calls: u64, tally: &mut Tally) -> Result<String, String> {
     let mut list = random::list(seed);
     list.calls.truncate(calls as usize);
-    let (answers, machine) = compare::run(&list)?;
-    for (list_call, (answer, _)) in list.calls.iter().zip(&answers) {
-        let label = compare::label(&machine, &list_call.call, answer);
-        *counts.entry(label).or_default() += 1;
-    }
+    let mut machine = compare::machine(&list)?;
+    let calls = list.calls.iter();
+    let answers: Vec<_> = calls
+        .map(|list_call| tally.call(&mut machine, list_call))
+        .collect();
     let fill = |length| terms::bytes(&vec![compare::FILL; length]);
     let computed = format!(
         "list-outcome {} {} {} {} {} {}",
@@ -86,25 +125,20 @@ fn list_law(seed: u64, calls: u64, counts: &mut Counts) -> Result<String, String
     Ok(law(&format!("list-{seed}"), &computed, &expected))
 }
 
-fn state_law(name: &str, random: &mut Random, counts: &mut Counts) -> String {
-    let (mut machine, _) = any_state::machine(random);
-    let list_call = any_state::call(random, &machine);
+fn state_law(name: &str, mut machine: Machine, list_call: &ListCall, tally: &mut Tally) -> String {
     let computed = format!(
         "call-outcome {} ({}) ({})",
         machine.capacity,
-        terms::given(&list_call),
+        terms::given(list_call),
         terms::nucleus(&machine)
     );
-    let mut record = list_call.record;
-    let answer = machine.call(&list_call.call, &list_call.format, &mut record);
-    let label = compare::label(&machine, &list_call.call, &answer);
-    *counts.entry(label).or_default() += 1;
-    let expected = terms::outcome(&[(answer, record)], &machine);
+    let answered = tally.call(&mut machine, list_call);
+    let expected = terms::outcome(&[answered], &machine);
     law(name, &computed, &expected)
 }
 
 /// A set-up with a table that may break a rule, and buffers that may be too short.
-fn set_up_law(name: &str, random: &mut Random, counts: &mut Counts) -> String {
+fn set_up_law(name: &str, random: &mut Random, tally: &mut Tally) -> String {
     let table = match random.once_in(4) {
         true => random::table(random),
         false => any_state::table(random),
@@ -120,7 +154,7 @@ fn set_up_law(name: &str, random: &mut Random, counts: &mut Counts) -> String {
     let before = terms::lent(&store, &queue, &images);
     let set_up = nucleus::set_up(&table, capacity, &mut store, &mut queue, &mut images);
     let response = set_up.err().unwrap_or(0);
-    *counts.entry(response.to_string()).or_default() += 1;
+    tally.response(response.to_string());
     law(
         name,
         &format!("made-by {capacity} {before} {}", terms::bytes(&table)),

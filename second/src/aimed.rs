@@ -1,0 +1,449 @@
+//! Calls aimed at single rules by what a well made nucleus has: entries to release, values that are taken, records to
+//! change, ET data. Calls that look at nothing meet such rules rarely.
+
+use crate::definition::File;
+use crate::fields;
+use crate::hold::{self, Entry};
+use crate::machine::Machine;
+use crate::random::{self, ListCall, Random};
+use crate::state::{Call, User};
+use crate::store;
+
+/// Who makes a call that is no certain user's: users 1 to 4.
+const USERS: std::ops::RangeInclusive<u8> = 1..=4;
+
+type Aim = fn(&mut Random, &Machine) -> Option<ListCall>;
+
+/// Each aim as often as it is tried; some find little to aim at.
+const AIMS: [(usize, Aim); 13] = [
+    (12, hold_more),
+    (4, hold_past_limit),
+    (16, release_one),
+    (4, release_changed),
+    (8, release_all),
+    (10, add_record),
+    (6, end_with_changes),
+    (12, change_record),
+    (10, take_from_record),
+    (16, leave_doubled),
+    (1, name_twice_beside_unknown),
+    (3, read_et_data),
+    (10, end_at_last_sequence),
+];
+
+/// A call aimed at one of the rules; none where the nucleus had nothing for a few of them. There is rarely a value that
+/// only an image has, so that is looked for first.
+pub fn call(random: &mut Random, machine: &Machine) -> Option<ListCall> {
+    if random.once_in(2) {
+        if let Some(list_call) = take_from_image(random, machine) {
+            return Some(list_call);
+        }
+    }
+    let aims: Vec<Aim> = AIMS
+        .iter()
+        .flat_map(|(times, aim)| vec![*aim; *times])
+        .collect();
+    (0..4).find_map(|_| random.pick(&aims)(random, machine))
+}
+
+/// An ISN: its file by index.
+type Place = (usize, u16);
+
+fn places(machine: &Machine) -> Vec<Place> {
+    let files = machine.state.definition.used_files().iter().enumerate();
+    files
+        .flat_map(|(index, file)| (1..=file.max_isn).map(move |isn| (index, isn)))
+        .collect()
+}
+
+fn records(machine: &Machine) -> Vec<Place> {
+    let mut records = places(machine);
+    records.retain(|(index, isn)| {
+        store::has_record(&machine.state.definition, &machine.store, *index, *isn)
+    });
+    records
+}
+
+fn content(machine: &Machine, (index, isn): Place) -> &[u8] {
+    store::record(&machine.state.definition, &machine.store, index, isn)
+}
+
+fn file(machine: &Machine, index: usize) -> &File {
+    &machine.state.definition.files[index]
+}
+
+fn holder(machine: &Machine, (index, isn): Place) -> Option<u8> {
+    hold::holder(machine.entries(), file(machine, index).number, isn)
+}
+
+fn all_fields(file: &File) -> Vec<usize> {
+    (0..file.used_fields().len()).collect()
+}
+
+fn unique_fields(file: &File) -> Vec<usize> {
+    let mut unique = all_fields(file);
+    unique.retain(|field| file.fields[*field].is_unique());
+    unique
+}
+
+fn other_fields(file: &File) -> Vec<usize> {
+    let mut others = all_fields(file);
+    others.retain(|field| !file.fields[*field].is_unique());
+    others
+}
+
+fn user(machine: &Machine, number: u8) -> &User {
+    &machine.state.users[usize::from(number) - 1]
+}
+
+/// Whether neither 9 nor 29 waits for the user.
+fn is_able(machine: &Machine, number: u8) -> bool {
+    let user = user(machine, number);
+    let access_only = user.session && user.access_only;
+    !user.overdue && !user.is_late(machine.state.clock) && !access_only
+}
+
+/// Whether neither 47 nor 70 waits for a new entry of the user.
+fn has_room(machine: &Machine, number: u8) -> bool {
+    let user = user(machine, number);
+    let limit = match user.session {
+        true => user.hold_limit,
+        false => User::DEFAULT_HOLD_LIMIT,
+    };
+    let entries = machine.entries();
+    entries.len() < machine.capacity as usize
+        && hold::count_of(entries, number) < usize::from(limit)
+}
+
+fn somebody(random: &mut Random, able: impl Fn(u8) -> bool) -> Option<u8> {
+    let able: Vec<u8> = USERS.filter(|number| able(*number)).collect();
+    random.pick_any(&able)
+}
+
+/// The holder of the ISN; where there is none, somebody who can hold it.
+fn changer(random: &mut Random, machine: &Machine, place: Place) -> Option<u8> {
+    match holder(machine, place) {
+        Some(holder) => is_able(machine, holder).then_some(holder),
+        None => somebody(random, |number| {
+            is_able(machine, number) && has_room(machine, number)
+        }),
+    }
+}
+
+/// The users who hold something that is changed or not, as often as they do.
+fn holders(machine: &Machine, changed: bool) -> Vec<u8> {
+    let entries = machine.entries().iter();
+    entries
+        .filter(|entry| entry.changed == changed)
+        .map(|entry| entry.user)
+        .collect()
+}
+
+fn call_at(machine: &Machine, command: &[u8; 2], user: u8, (index, isn): Place) -> Call {
+    Call {
+        command: *command,
+        option: b' ',
+        user,
+        file: file(machine, index).number,
+        isn,
+        limit: 0,
+        clock: 0,
+    }
+}
+
+fn without_buffers(call: Call) -> ListCall {
+    ListCall {
+        call,
+        format: Vec::new(),
+        record: Vec::new(),
+    }
+}
+
+/// A call that names these fields, with this record buffer.
+fn naming(call: Call, file: &File, elements: &[usize], record: Vec<u8>) -> ListCall {
+    ListCall {
+        call,
+        format: random::format_of(file, elements),
+        record,
+    }
+}
+
+fn with_option(option: u8, call: Call) -> Call {
+    Call { option, ..call }
+}
+
+/// An ISN that nobody holds.
+fn free_place(random: &mut Random, machine: &Machine) -> Option<Place> {
+    let mut free = places(machine);
+    free.retain(|place| holder(machine, *place).is_none());
+    random.pick_any(&free)
+}
+
+/// HI of another ISN by a user who is at his hold limit, or where the queue is full.
+fn hold_past_limit(random: &mut Random, machine: &Machine) -> Option<ListCall> {
+    let place = free_place(random, machine)?;
+    let user = somebody(random, |number| {
+        is_able(machine, number) && !has_room(machine, number)
+    })?;
+    Some(without_buffers(call_at(machine, b"HI", user, place)))
+}
+
+/// HI or L4 of another ISN by a user who holds some, if any.
+fn hold_more(random: &mut Random, machine: &Machine) -> Option<ListCall> {
+    let place = free_place(random, machine)?;
+    let holders: Vec<u8> = machine.entries().iter().map(|entry| entry.user).collect();
+    let user = match random.pick_any(&holders) {
+        Some(user) => user,
+        None => changer(random, machine, place)?,
+    };
+    if !records(machine).contains(&place) || random.once_in(3) {
+        return Some(without_buffers(call_at(machine, b"HI", user, place)));
+    }
+    let call = call_at(machine, b"L4", user, place);
+    let file = file(machine, place.0);
+    let record = vec![0xEE; file.record_length() + random.below(2) as usize];
+    Some(naming(call, file, &all_fields(file), record))
+}
+
+/// RI of an unchanged entry, of a user who has more of them, if any.
+fn release_one(random: &mut Random, machine: &Machine) -> Option<ListCall> {
+    let holders = holders(machine, false);
+    let has_more = |entry: &&Entry| holders.iter().filter(|user| **user == entry.user).count() > 1;
+    let entries = machine.entries().iter();
+    let mut unchanged: Vec<&Entry> = entries.filter(|entry| !entry.changed).collect();
+    if unchanged.iter().any(has_more) {
+        unchanged.retain(has_more);
+    }
+    release(random, machine, &unchanged)
+}
+
+/// RI of a changed entry.
+fn release_changed(random: &mut Random, machine: &Machine) -> Option<ListCall> {
+    let entries = machine.entries().iter();
+    let changed: Vec<&Entry> = entries.filter(|entry| entry.changed).collect();
+    release(random, machine, &changed)
+}
+
+/// RI of one of these entries.
+fn release(random: &mut Random, machine: &Machine, entries: &[&Entry]) -> Option<ListCall> {
+    let entry = random.pick_any(entries)?;
+    let index = machine.state.definition.file_index(entry.file)?;
+    let call = call_at(machine, b"RI", entry.user, (index, entry.isn));
+    Some(without_buffers(call))
+}
+
+/// RI of ISN 0, of a user who has something to release.
+fn release_all(random: &mut Random, machine: &Machine) -> Option<ListCall> {
+    let user = random.pick_any(&holders(machine, false))?;
+    Some(without_buffers(call_at(machine, b"RI", user, (0, 0))))
+}
+
+/// ET of a user who has changed something.
+fn end_with_changes(random: &mut Random, machine: &Machine) -> Option<ListCall> {
+    let user = random.pick_any(&holders(machine, true))?;
+    Some(without_buffers(call_at(machine, b"ET", user, (0, 0))))
+}
+
+/// Those of the places that are so, or all where none is.
+fn preferred(places: Vec<Place>, so: impl Fn(&Place) -> bool) -> Vec<Place> {
+    match places.iter().any(&so) {
+        true => places.into_iter().filter(so).collect(),
+        false => places,
+    }
+}
+
+/// N2 of all fields at an ISN without a record, in a file with unique values and several ISNs, if any.
+fn add_record(random: &mut Random, machine: &Machine) -> Option<ListCall> {
+    let records = records(machine);
+    let mut empty = places(machine);
+    empty.retain(|place| !records.contains(place));
+    let empty = preferred(empty, |(index, _)| {
+        let file = file(machine, *index);
+        file.max_isn > 1 && !unique_fields(file).is_empty()
+    });
+    let place = random.pick_any(&empty)?;
+    let user = changer(random, machine, place)?;
+    let call = call_at(machine, b"N2", user, place);
+    let file = file(machine, place.0);
+    let elements = all_fields(file);
+    let record = random::values(random, file, &elements);
+    Some(naming(call, file, &elements, record))
+}
+
+/// A1 of all fields, or E1, of a record, where its file has others, if any: an image is kept.
+fn change_record(random: &mut Random, machine: &Machine) -> Option<ListCall> {
+    let records = records(machine);
+    let in_file = |index| records.iter().filter(|place| place.0 == index).count();
+    let records = preferred(records.clone(), |place| in_file(place.0) > 1);
+    let place = random.pick_any(&records)?;
+    let user = changer(random, machine, place)?;
+    let command = random.pick(&[b"A1", b"A1", b"E1"]);
+    let call = with_option(b'H', call_at(machine, command, user, place));
+    let file = file(machine, place.0);
+    let elements = all_fields(file);
+    let record = random::values(random, file, &elements);
+    Some(naming(call, file, &elements, record))
+}
+
+/// A unique value that is taken: its file and field, the ISN that has or had it, and whose image it is, if one's.
+struct Taken {
+    place: Place,
+    field: usize,
+    value: Vec<u8>,
+    owner: Option<u8>,
+}
+
+/// The unique values in one record or image.
+fn taken_in(machine: &Machine, place: Place, content: &[u8], owner: Option<u8>) -> Vec<Taken> {
+    let file = file(machine, place.0);
+    let taken = |field| Taken {
+        place,
+        field,
+        value: content[file.field_range(field)].to_vec(),
+        owner,
+    };
+    unique_fields(file).into_iter().map(taken).collect()
+}
+
+fn taken_by_records(machine: &Machine) -> Vec<Taken> {
+    let records = records(machine).into_iter();
+    records
+        .flat_map(|place| taken_in(machine, place, content(machine, place), None))
+        .collect()
+}
+
+/// The values that only an image has.
+fn taken_by_images(machine: &Machine) -> Vec<Taken> {
+    let definition = &machine.state.definition;
+    let width = definition.greatest_record_length();
+    let mut taken = Vec::new();
+    for (number, entry) in machine.entries().iter().enumerate() {
+        let Some(index) = definition.file_index(entry.file) else {
+            continue;
+        };
+        if entry.changed && entry.existed {
+            let image = &machine.images[hold::image_range(number, width)];
+            let place = (index, entry.isn);
+            taken.extend(taken_in(machine, place, image, Some(entry.user)));
+        }
+    }
+    let in_records = taken_by_records(machine);
+    let same = |one: &Taken, other: &Taken| {
+        (one.place.0, one.field, &one.value) == (other.place.0, other.field, &other.value)
+    };
+    taken.retain(|one| !in_records.iter().any(|other| same(one, other)));
+    taken
+}
+
+fn take_from_record(random: &mut Random, machine: &Machine) -> Option<ListCall> {
+    take(random, machine, &taken_by_records(machine))
+}
+
+fn take_from_image(random: &mut Random, machine: &Machine) -> Option<ListCall> {
+    take(random, machine, &taken_by_images(machine))
+}
+
+/// A1 of another record of the file that names the field with the value, which is taken.
+fn take(random: &mut Random, machine: &Machine, all: &[Taken]) -> Option<ListCall> {
+    let records = records(machine);
+    let mut pairs: Vec<(&Taken, Place)> = Vec::new();
+    for taken in all {
+        let file = file(machine, taken.place.0);
+        let is_target = |place: &Place| {
+            let owned = taken.owner.is_some() && holder(machine, *place) == taken.owner;
+            place.0 == taken.place.0 && *place != taken.place && !owned
+        };
+        if fields::is_allowed(&file.fields[taken.field], &taken.value) {
+            let targets = records.iter().copied().filter(is_target);
+            pairs.extend(targets.map(|place| (taken, place)));
+        }
+    }
+    let is_held = |(_, place): &(&Taken, Place)| holder(machine, *place).is_some();
+    if random.once_in(2) && pairs.iter().any(is_held) {
+        pairs.retain(is_held);
+    }
+    let (taken, place) = random.pick_any(&pairs)?;
+    let user = changer(random, machine, place)?;
+    let option = match holder(machine, place) {
+        Some(_) => random.pick(b" H"),
+        None => b'H',
+    };
+    let call = with_option(option, call_at(machine, b"A1", user, place));
+    let file = file(machine, place.0);
+    let mut elements = vec![taken.field];
+    let mut record = taken.value.clone();
+    if let Some(field) = random.pick_any(&other_fields(file)) {
+        elements.push(field);
+        record.extend(fields::null_value(&file.fields[field]));
+    }
+    Some(naming(call, file, &elements, record))
+}
+
+/// A1 that names no unique field, of a record that has a unique value of another one.
+fn leave_doubled(random: &mut Random, machine: &Machine) -> Option<ListCall> {
+    let records = records(machine);
+    let doubled = |place: &Place| {
+        let file = file(machine, place.0);
+        records.iter().any(|other| {
+            let same = |field: &usize| {
+                content(machine, *place)[file.field_range(*field)]
+                    == content(machine, *other)[file.field_range(*field)]
+            };
+            other.0 == place.0 && other != place && unique_fields(file).iter().any(same)
+        })
+    };
+    let has_other_fields = |place: &Place| !other_fields(file(machine, place.0)).is_empty();
+    let mut chosen = records.clone();
+    chosen.retain(|place| doubled(place) && has_other_fields(place));
+    let place = random.pick_any(&chosen)?;
+    let user = changer(random, machine, place)?;
+    let call = with_option(b'H', call_at(machine, b"A1", user, place));
+    let file = file(machine, place.0);
+    let elements = other_fields(file);
+    let nulls = elements
+        .iter()
+        .flat_map(|field| fields::null_value(&file.fields[*field]));
+    Some(naming(call, file, &elements, nulls.collect()))
+}
+
+/// A1, N1 or N2 that names one field twice, and one that the file does not have.
+fn name_twice_beside_unknown(random: &mut Random, machine: &Machine) -> Option<ListCall> {
+    let user = somebody(random, |number| is_able(machine, number))?;
+    let place = random.pick_any(&places(machine))?;
+    let name = random.pick(file(machine, place.0).used_fields()).name;
+    let mut names = vec![name, name];
+    let unknown = random.pick(&[*b"ZZ", *b"ZP", *b"aa"]);
+    names.insert(random.below(3) as usize, unknown);
+    let mut format = names.join(&b',');
+    format.push(b'.');
+    let command = random.pick(&[b"A1", b"N1", b"N2"]);
+    Some(ListCall {
+        call: call_at(machine, command, user, place),
+        format,
+        record: vec![b'1'; 8],
+    })
+}
+
+/// RE of a user who has ET data.
+fn read_et_data(random: &mut Random, machine: &Machine) -> Option<ListCall> {
+    let has_data = |number: &u8| user(machine, *number).et_length > 0;
+    let users: Vec<u8> = USERS.filter(has_data).collect();
+    let user = random.pick_any(&users)?;
+    Some(ListCall {
+        record: vec![0xEE; random.pick(&[64, 66])],
+        ..without_buffers(call_at(machine, b"RE", user, (0, 0)))
+    })
+}
+
+/// ET of a user whose sequence is at its end or one before.
+fn end_at_last_sequence(random: &mut Random, machine: &Machine) -> Option<ListCall> {
+    let users: Vec<u8> = (1u8..)
+        .zip(&machine.state.users)
+        .filter(|(number, user)| {
+            user.session && user.sequence >= u32::MAX - 1 && is_able(machine, *number)
+        })
+        .map(|(number, _)| number)
+        .collect();
+    let user = random.pick_any(&users)?;
+    Some(without_buffers(call_at(machine, b"ET", user, (0, 0))))
+}

@@ -1,0 +1,212 @@
+//! Single cases that a comparison must have, so that a wrong rule is seen; and which of them a call was.
+
+use crate::compare;
+use crate::fields;
+use crate::machine::Machine;
+use crate::random::ListCall;
+use crate::state::{self, Answer, Call, COMMANDS};
+use crate::store;
+
+/// The cases of single rules.
+const RULES: [&str; 19] = [
+    "RI of one ISN",
+    "RI of one ISN beside an unchanged entry",
+    "RI of one ISN beside a changed entry",
+    "RI of ISN 0",
+    "RI of ISN 0 beside a changed entry",
+    "A1 without H, value of a record",
+    "A1 without H, value of an image",
+    "A1 with H, value of a record",
+    "A1 with H, value of an image",
+    "A1 beside a doubled value",
+    "ET before the last sequence",
+    "ET at the last sequence",
+    "unknown name beside a doubled one",
+    "entry of user 0",
+    "entry of a user above 32",
+    "entry of a user in no transaction",
+    "L4 with bytes",
+    "RE with bytes",
+    "RE without bytes",
+];
+
+/// The options that are named for some command, and the blank.
+const OPTIONS: [u8; 4] = *b" IHA";
+
+/// All cases: those of single rules, and each command with each option.
+pub fn all() -> Vec<String> {
+    let mut all = RULES.map(str::to_string).to_vec();
+    for (_, command) in COMMANDS {
+        all.extend(OPTIONS.map(|option| option_case(command, option)));
+        all.push(option_case(command, 0));
+    }
+    all
+}
+
+fn option_case(command: [u8; 2], option: u8) -> String {
+    let name = String::from_utf8_lossy(&command).into_owned();
+    match option {
+        b' ' => format!("{name}, option blank"),
+        _ if OPTIONS.contains(&option) => format!("{name}, option {}", char::from(option)),
+        _ => format!("{name}, other option"),
+    }
+}
+
+/// The cases that a call was, by the nucleus before and after it and its answer.
+pub fn of(before: &Machine, after: &Machine, list_call: &ListCall, answer: &Answer) -> Vec<String> {
+    let call = &list_call.call;
+    let known = state::Command::from_code(call.command).is_some();
+    let mut cases = match answer.response {
+        11 => return Vec::new(),
+        12 => return strings(&holder_cases(before)),
+        _ if known => vec![option_case(call.command, call.option)],
+        _ => Vec::new(),
+    };
+    cases.extend(strings(&match (&call.command, answer.response) {
+        (b"RI", 0) => release_cases(before, call, answer),
+        (b"A1", 198) => taken_case(after, list_call),
+        (b"A1", 0) => doubled_case(after, list_call),
+        (b"ET", 0) => sequence_case(before, call),
+        (b"A1" | b"N1" | b"N2", 41) => name_case(after, list_call),
+        (b"L4", 0) => vec!["L4 with bytes"],
+        (b"RE", 0) if answer.quantity > 0 => vec!["RE with bytes"],
+        (b"RE", 0) => vec!["RE without bytes"],
+        _ => Vec::new(),
+    }));
+    cases
+}
+
+fn strings(cases: &[&str]) -> Vec<String> {
+    cases.iter().map(|case| case.to_string()).collect()
+}
+
+fn release_cases(before: &Machine, call: &Call, answer: &Answer) -> Vec<&'static str> {
+    let others = before
+        .entries()
+        .iter()
+        .filter(|entry| entry.user == call.user)
+        .filter(|entry| (entry.file, entry.isn) != (call.file, call.isn));
+    let beside_changed = others.clone().any(|entry| entry.changed);
+    let beside_unchanged = others.clone().any(|entry| !entry.changed);
+    let mut cases = Vec::new();
+    if call.isn != 0 {
+        cases.push("RI of one ISN");
+        cases.extend(beside_unchanged.then_some("RI of one ISN beside an unchanged entry"));
+        cases.extend(beside_changed.then_some("RI of one ISN beside a changed entry"));
+    } else if answer.quantity > 0 {
+        cases.push("RI of ISN 0");
+        cases.extend(beside_changed.then_some("RI of ISN 0 beside a changed entry"));
+    }
+    cases
+}
+
+/// A value that no other record has is an image's.
+fn taken_case(after: &Machine, list_call: &ListCall) -> Vec<&'static str> {
+    let call = &list_call.call;
+    let values = compare::judged_values(after, list_call);
+    let in_a_record = after.records().iter().any(|((file, isn), content)| {
+        let has = |(range, value): &(std::ops::Range<usize>, Vec<u8>)| {
+            content[range.clone()] == value[..]
+        };
+        *file == call.file && *isn != call.isn && values.iter().any(has)
+    });
+    vec![match (call.option == b'H', in_a_record) {
+        (false, true) => "A1 without H, value of a record",
+        (false, false) => "A1 without H, value of an image",
+        (true, true) => "A1 with H, value of a record",
+        (true, false) => "A1 with H, value of an image",
+    }]
+}
+
+/// A unique field that A1 did not name has the value of another record.
+fn doubled_case(after: &Machine, list_call: &ListCall) -> Vec<&'static str> {
+    let call = &list_call.call;
+    let definition = &after.state.definition;
+    let Some(index) = definition.file_index(call.file) else {
+        return Vec::new();
+    };
+    let file = &definition.files[index];
+    let named = fields::elements(file, &list_call.format).unwrap_or_default();
+    let content = store::record(definition, &after.store, index, call.isn);
+    let is_doubled = |field: usize| {
+        let range = file.field_range(field);
+        let records = after.records();
+        let mut others = records
+            .iter()
+            .filter(|((number, isn), _)| *number == call.file && *isn != call.isn);
+        file.fields[field].is_unique()
+            && !named.contains(&field)
+            && others.any(|(_, other)| other[range.clone()] == content[range.clone()])
+    };
+    match (0..file.used_fields().len()).any(is_doubled) {
+        true => vec!["A1 beside a doubled value"],
+        false => Vec::new(),
+    }
+}
+
+fn sequence_case(before: &Machine, call: &Call) -> Vec<&'static str> {
+    let user = before.state.users[usize::from(call.user) - 1];
+    match user.sequence {
+        _ if !user.session => Vec::new(),
+        u32::MAX => vec!["ET at the last sequence"],
+        0xFFFF_FFFE => vec!["ET before the last sequence"],
+        _ => Vec::new(),
+    }
+}
+
+/// A format buffer of good form.
+fn name_case(after: &Machine, list_call: &ListCall) -> Vec<&'static str> {
+    let definition = &after.state.definition;
+    let (Some(index), Some((b'.', names))) = (
+        definition.file_index(list_call.call.file),
+        list_call.format.split_last(),
+    ) else {
+        return Vec::new();
+    };
+    let named: Vec<Option<usize>> = names
+        .split(|byte| *byte == b',')
+        .map(|name| definition.files[index].field_named(name))
+        .collect();
+    let known: Vec<usize> = named.iter().copied().flatten().collect();
+    match known.len() < named.len() && fields::names_twice(&known) {
+        true => vec!["unknown name beside a doubled one"],
+        false => Vec::new(),
+    }
+}
+
+/// What alone keeps a state from being well made: an entry of user 0 that would be good as user 1's, one of a user above
+/// 32 that would be good as a user's in a transaction, or one of a user who would have to be in a transaction.
+fn holder_cases(before: &Machine) -> Vec<&'static str> {
+    let mut repaired = before.clone();
+    let Some(entries) = repaired.queue.get_mut(..before.state.entries as usize) else {
+        return Vec::new();
+    };
+    let users = &mut repaired.state.users;
+    let in_transaction = before.in_transaction().first().copied();
+    let mut cases = Vec::new();
+    for entry in entries {
+        match (entry.user, in_transaction) {
+            (0, _) => {
+                cases.push("entry of user 0");
+                entry.user = 1;
+            }
+            (33.., Some(user)) => {
+                cases.push("entry of a user above 32");
+                entry.user = user;
+            }
+            (1..=32, _) if !users[usize::from(entry.user) - 1].in_transaction => {
+                cases.push("entry of a user in no transaction");
+                let user = &mut users[usize::from(entry.user) - 1];
+                user.session = true;
+                user.in_transaction = true;
+                user.begun = before.state.clock;
+            }
+            _ => {}
+        }
+    }
+    let well_made = state::is_well_made(&repaired.state, repaired.capacity, &repaired.queue);
+    match cases[..] {
+        [_] if well_made => cases,
+        _ => Vec::new(),
+    }
+}
