@@ -1,17 +1,16 @@
-// What comes before a command (document 01, 'Responses'): 22 and 72, the clock with its back-outs, 9, the session that opens, 29.
+// What comes before a command that is understood (document 01, 'Responses'): the clock with its back-outs, 9, the session that opens, 29.
 ghost use mathlib.Core.Bool.{_&&_, not};
 ghost use mathlib.Core.List.{List};
 ghost use mathlib.Core.Path.{_≡_};
 ghost use Prim.Native.Nat.{ℕ, _-_, max};
 ghost use lib.ListN.{getD, set};
-ghost use Rattle.nucleus.specs.Commands.{commands, one-of, on-session, serving-access-only};
+ghost use Rattle.nucleus.specs.Commands.{one-of, on-session, serving-access-only};
 ghost use Rattle.nucleus.specs.Users.{fresh-user, is-active};
 ghost use Rattle.nucleus.specs.Clock.{clocked};
 ghost use Rattle.nucleus.specs.Step.{admitted-user};
 ghost use Rattle.nucleus.specs.declared.EtData.{EtData};
 ghost use Rattle.overdue.specs.Parts.{parts};
-ghost use Rattle.admission.specs.Admission.{understood-as, cause-of, admission-of, turned};
-use codes::Decoded;
+ghost use Rattle.admission.specs.Admission.{admission-of, turned};
 use definition::Definition;
 use nucleus::Call;
 use nucleus::Command;
@@ -19,43 +18,6 @@ use nucleus::MAX_USERS;
 use nucleus::Response;
 use nucleus::User;
 use shares::Verdict;
-
-// What the command and the user of a call are taken for.
-pub enum Understood {
-    As(Command),
-    Refused(Response),
-}
-
-// 22 and 72.
-pub fn understand(call: Call) -> Understood
-    ensures { λ r. ⌜ r ≡ understood-as commands call ⌝ }
-{
-    let letters = call.command;
-    let decoded = codes::command_of(letters);
-    let Decoded::Known(command) = decoded else {
-        return Understood::Refused(Response::CommandUnknown);
-    };
-    if !codes::has_option(command, call.option) {
-        return Understood::Refused(Response::CommandUnknown);
-    }
-    if call.user < 1 {
-        return Understood::Refused(Response::UserUnknown);
-    }
-    if MAX_USERS < call.user as usize {
-        return Understood::Refused(Response::UserUnknown);
-    }
-    Understood::As(command)
-}
-
-// Why a call was not understood.
-pub fn cause(understood: Understood) -> Response
-    ensures { λ r. ⌜ r ≡ cause-of understood ⌝ }
-{
-    match understood {
-        Understood::As(_) => Response::CommandUnknown,
-        Understood::Refused(cause) => cause,
-    }
-}
 
 // Whether the call is let in, and what the clock, a back-out and the session that opened left of clock, users and entries.
 pub struct Admitted {
@@ -76,7 +38,7 @@ fn place(number: u8) -> usize
 }
 
 // The user of a number; one without a session where there is none.
-pub fn user_at(users: [User; MAX_USERS], number: u8) -> User
+fn user_at(users: [User; MAX_USERS], number: u8) -> User
     ensures { λ r. ⌜ r ≡ getD users (number - 1) fresh-user ⌝ }
 {
     let at = place(number);
@@ -97,11 +59,31 @@ fn with_user(mut users: [User; MAX_USERS], number: u8, user: User) -> [User; MAX
     users
 }
 
+// OP and CL, which open or close a session.
+fn on_session(command: Command) -> bool
+    ensures { λ r. ⌜ r ≡ one-of on-session command ⌝ }
+{
+    match command {
+        Command::Op | Command::Cl => true,
+        _ => false,
+    }
+}
+
+// What an access-only user may call.
+fn serves_access_only(command: Command) -> bool
+    ensures { λ r. ⌜ r ≡ one-of serving-access-only command ⌝ }
+{
+    match command {
+        Command::L1 | Command::Re | Command::Op | Command::Cl => true,
+        _ => false,
+    }
+}
+
 // "OP or CL in a transaction".
 fn session_in_transaction(command: Command, user: User) -> bool
     ensures { λ r. ⌜ r ≡ (one-of on-session command && is-active user) ⌝ }
 {
-    if codes::on_session(command) {
+    if on_session(command) {
         return user.transaction.active;
     }
     false
@@ -112,7 +94,7 @@ fn access_refused(command: Command, user: User) -> bool
     ensures { λ r. ⌜ r ≡ (user .«access_only» && not (one-of serving-access-only command)) ⌝ }
 {
     if user.access_only {
-        return !codes::serves_access_only(command);
+        return !serves_access_only(command);
     }
     false
 }

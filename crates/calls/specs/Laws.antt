@@ -1,7 +1,7 @@
 -- What a command gives back over its parts is what `perform` does.
 -- Assumes nothing.
 use Prim.Native.Nat.{ℕ, _≤_}
-use mathlib.Core.Path.{_≡_, refl, sym, ap, _∙_}
+use mathlib.Core.Path.{_≡_, refl, _∙_}
 use mathlib.Core.Bool.{Bool, true, false, not, _&&_}
 use mathlib.Core.List.{List, [], _∷_}
 use lib.Dec.{eqb}
@@ -14,7 +14,7 @@ use Rattle.records.specs.Records.{record-length}
 use Rattle.records.specs.declared.Found.{Found}
 use Rattle.records.specs.declared.Found.the-variants.{At, Nowhere}
 use Rattle.layout.specs.Layout.{place}
-use Rattle.store.specs.Store.{file-part, with-part, put-record, empty}
+use Rattle.store.specs.Store.{file-part, put-record, empty}
 use Rattle.store.specs.Files.{part-own}
 use Rattle.nucleus.specs.Commands.{one-of, at-given-isn, reading-values, option-I}
 use Rattle.nucleus.specs.Commands as commands
@@ -34,7 +34,8 @@ use Rattle.shares.specs.LawsChanging.{perform-a1, perform-e1, perform-n1, perfo
 use Rattle.shares.specs.LawsEnding.{perform-et, perform-bt, perform-re, perform-op, perform-cl}
 use Rattle.shares.specs.LawsRefused.{refusal-is, perform-unknown, perform-invalid}
 use Rattle.shares.specs.declared.Share.{Share}
-use Rattle.calls.specs.Commands.{Left, on-file, isn-refused, with-store-of, in-file, performed}
+use Rattle.file_commands.specs.FileCommands.{Left, on-file, isn-refused}
+use Rattle.calls.specs.Commands.{with-store-of, in-file, performed}
 
 -- what a test of two tests, neither of them, or both, says
 not-refused : (b : Bool) → not b ≡ false → b ≡ true

@@ -38,11 +38,13 @@ use Rattle.shares.specs.declared.Done.{Done}
 use Rattle.overdue.specs.Parts.{parts}
 use Rattle.shares.specs.declared.Verdict.{Verdict}
 use Rattle.shares.specs.declared.Verdict.the-variants.{Passed, Refused}
-use Rattle.admission.specs.Admission.{understood-as, admission-of}
-use Rattle.admission.specs.Laws.{Plain, understood-plain}
-use Rattle.admission.specs.declared.Understood.the-variants.{As}
-use Rattle.calls.specs.Commands.{left, performed}
-use Rattle.calls.specs.Laws.{left-on, performed-on, performed-is}
+use Rattle.admission.specs.Admission.{admission-of}
+use Rattle.understanding.specs.Understanding.{understood-as}
+use Rattle.understanding.specs.Laws.{Plain, understood-plain}
+use Rattle.understanding.specs.declared.Understood.the-variants.{As}
+use Rattle.file_commands.specs.FileCommands.{left}
+use Rattle.calls.specs.Commands.{performed}
+use Rattle.calls.specs.Laws.{left-on, performed-is}
 
 -- ---- what a nucleus that is usable has
 module _ (capacity : ℕ) (n : Nucleus) (usable : first-cause (rows-usable capacity n) ≡ none) where
@@ -87,27 +89,40 @@ module _ (capacity : ℕ) (call : Call) (format buffer : List ℕ) (n : Nucleus)
       unfolding step admitted
       step-let-in e = rw (usable, understood, known, e)
 
-      -- the command, over its share
-      pub step-performed : admitted-user c call (clocked (call .clock) n) ≡ let-in c m → capacity ≤ length (m .queue) → DefinitionShape (m .state .definition) → valid (m .state .definition) ≡ true
-          → step capacity call format buffer n ≡ left-on capacity call format buffer m (performed-on capacity call format buffer m c)
-      step-performed e long shape v =
-          step-let-in e ∙ performed-is capacity call format buffer m long (small-record (m .state .definition) shape v (call .file)) c
+-- ---- a command on a state, by the parts that code has in hand
+module _ (capacity : ℕ) (call : Call) (format buffer : List ℕ) (s : State) (store queue images : List ℕ) where
+  abbrev here : Nucleus
+  here = nucleus s store queue images
+
+  -- the state that the command left
+  abbrev pub left-state : Done → List ℕ → State
+  left-state d isns = record {
+    definition = s .definition;
+    clock = s .clock;
+    users = set (s .users) (call .user - 1) (d .share .user);
+    «et_data» = set (s .«et_data») (call .user - 1) (d .share .«et_data»);
+    «last_assigned» = isns;
+    count = d .share .count;
+  }
+
+  -- the share, and what the command left
+  pub served : (c : Command) → capacity ≤ length queue → DefinitionShape (s .definition) → valid (s .definition) ≡ true
+      → (user : User) (held : EtData) (assigned : ℕ) → user ≡ getD (s .users) (call .user - 1) fresh-user → held ≡ getD (s .«et_data») (call .user - 1) beyond-data
+      → assigned ≡ assigned-in (s .«last_assigned») (place (s .definition) (call .file))
+      → (d : Done) (store″ queue″ images″ buffer″ : List ℕ)
+      → left d store″ queue″ images″ buffer″ ≡ performed call capacity (s .clock) (share user held assigned (s .count)) (s .definition) store queue images format buffer c
+      → (isns : List ℕ) → isns ≡ assigned-with (s .«last_assigned») (place (s .definition) (call .file)) (d .share .«last_assigned»)
+      → result (d .answer) (nucleus (left-state d isns) store″ queue″ images″) buffer″ ≡ perform (request capacity c call format buffer) here
+  unfolding with-share
+  served c long shape v user held assigned same-user same-data same-assigned d store″ queue″ images″ buffer″ made isns same-isns =
+      ap (λ given. result (d .answer) (nucleus (left-state d given) store″ queue″ images″) buffer″) same-isns
+      ∙ ap (left-on capacity call format buffer here) (made ∙ ap (λ x. performed call capacity (s .clock) x (s .definition) store queue images format buffer c) (λ i. share (same-user i) (same-data i) (same-assigned i) (s .count)))
+      ∙ sym (performed-is capacity call format buffer here long (small-record (s .definition) shape v (call .file)) c)
 
 -- ---- a call on a state, by the parts that code has in hand
 module _ (capacity : ℕ) (call : Call) (format buffer : List ℕ) (s : State) (store queue images : List ℕ) where
   abbrev begun : Nucleus
   begun = nucleus s store queue images
-
-  -- the state that the command left
-  abbrev pub left-state : ℕ → List User → Done → List ℕ → State
-  left-state clock users d isns = record {
-    definition = s .definition;
-    clock = clock;
-    users = set users (call .user - 1) (d .share .user);
-    «et_data» = set (s .«et_data») (call .user - 1) (d .share .«et_data»);
-    «last_assigned» = isns;
-    count = d .share .count;
-  }
 
   -- after the clock, the back-outs and the session
   module _ (clock : ℕ) (users : List User) (count : ℕ) (store′ queue′ images′ : List ℕ) where
@@ -125,16 +140,6 @@ module _ (capacity : ℕ) (call : Call) (format buffer : List ℕ) (s : State) (
       refused-through v cause e told =
           sym (step-turned capacity call format buffer begun usable c (plain .passed) (plain .known) admitted-to cause (e ∙ ap (λ w. admission-of w c admitted-to) told))
 
-      -- the share, and what the command left
-      pub performed-through : (v : Verdict) → Judged v → v ≡ Passed → capacity ≤ length queue′ → DefinitionShape (s .definition)
-          → (user : User) (held : EtData) (assigned : ℕ) → user ≡ getD users (call .user - 1) fresh-user → held ≡ getD (s .«et_data») (call .user - 1) beyond-data
-          → assigned ≡ assigned-in (s .«last_assigned») (place (s .definition) (call .file))
-          → (d : Done) (store″ queue″ images″ buffer″ : List ℕ)
-          → left d store″ queue″ images″ buffer″ ≡ performed call capacity clock (share user held assigned count) (s .definition) store′ queue′ images′ format buffer c
-          → (isns : List ℕ) → isns ≡ assigned-with (s .«last_assigned») (place (s .definition) (call .file)) (d .share .«last_assigned»)
-          → result (d .answer) (nucleus (left-state clock users d isns) store″ queue″ images″) buffer″ ≡ step capacity call format buffer begun
-      unfolding with-share
-      performed-through v e told long shape user held assigned same-user same-data same-assigned d store″ queue″ images″ buffer″ made isns same-isns =
-          ap (λ given. result (d .answer) (nucleus (left-state clock users d given) store″ queue″ images″) buffer″) same-isns
-          ∙ ap (left-on capacity call format buffer admitted-to) (made ∙ ap (λ x. performed call capacity clock x (s .definition) store′ queue′ images′ format buffer c) (λ i. share (same-user i) (same-data i) (same-assigned i) count))
-          ∙ sym (step-performed capacity call format buffer begun usable c (plain .passed) (plain .known) admitted-to (e ∙ ap (λ w. admission-of w c admitted-to) told) long shape (usable-valid capacity begun usable))
+      pub performed-through : (v : Verdict) → Judged v → v ≡ Passed → perform (request capacity c call format buffer) admitted-to ≡ step capacity call format buffer begun
+      performed-through v e told =
+          sym (step-let-in capacity call format buffer begun usable c (plain .passed) (plain .known) admitted-to (e ∙ ap (λ w. admission-of w c admitted-to) told))

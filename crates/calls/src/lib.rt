@@ -1,20 +1,21 @@
 // One call (document 01, 'One call'): every check in the table's order, the clock, and the command. The state comes and goes by value, here
 // alone; store, hold queue, image buffer, format and record buffer are lent, and may be longer than is needed.
+ghost use mathlib.Core.Bool.{true};
 ghost use mathlib.Core.Path.{_≡_};
 ghost use Prim.Native.Nat.{_≤_};
 ghost use lib.ListN.{length};
-ghost use Rattle.layout.specs.Layout.{store-size, image-length, place};
+ghost use Rattle.layout.specs.Layout.{store-size, place};
 ghost use Rattle.nucleus.specs.Responses.{refused};
-ghost use Rattle.nucleus.specs.Nucleus.{nucleus, result};
+ghost use Rattle.validity.specs.Validity.{valid};
+ghost use Rattle.nucleus.specs.Nucleus.{nucleus, request, result};
 ghost use Rattle.nucleus.specs.Target.{assigned-in};
-ghost use Rattle.nucleus.specs.Step.{step};
+ghost use Rattle.nucleus.specs.Step.{perform, step};
 ghost use Rattle.shares.specs.Shares.{assigned-with};
 ghost use Rattle.calls.specs.Outcome.{outcome};
-ghost use Rattle.calls.specs.Commands.{left, on-file, isn-refused, in-file, performed};
+ghost use Rattle.file_commands.specs.FileCommands.{left};
+ghost use Rattle.calls.specs.Commands.{in-file, performed};
 ghost use Rattle.nucleus.specs.declared.Command.the-variants.{Ri};
-use admission::Understood;
 use definition::Definition;
-use definition::File;
 use definition::MAX_FILES;
 use nucleus::Answer;
 use nucleus::Call;
@@ -25,96 +26,12 @@ use records::Found;
 use shares::Done;
 use shares::Share;
 use shares::Verdict;
+use understanding::Understood;
 
 // What a call answers, and the state that it leaves.
 pub struct Outcome {
     pub answer: Answer,
     pub state: State,
-}
-
-// 113, first: the ISN that the call gives is not one of its file's. N1 is given none, and option `I` may be given any.
-fn isn_refused(command: Command, call: Call, max_isn: u16) -> bool
-    ensures { λ r. ⌜ r ≡ isn-refused command call «max_isn» ⌝ }
-{
-    if codes::seeks(command, call.option) {
-        return false;
-    }
-    if !codes::at_given_isn(command) {
-        return false;
-    }
-    if call.isn < 1 {
-        return true;
-    }
-    max_isn < call.isn
-}
-
-// A command about a file, on that file and its part of the store. Commands about none have been served before.
-fn on_file(
-    command: Command,
-    call: Call,
-    most: usize,
-    width: usize,
-    clock: u32,
-    share: Share,
-    f: File,
-    part: &mut [u8],
-    queue: &mut [u64],
-    images: &mut [u8],
-    format: &[u8],
-    buffer: &mut [u8],
-) -> Done
-    ensures { λ r. ⌜ left r (now (part .exit)) (now (queue .exit)) (now (images .exit)) (now (buffer .exit))
-        ≡ on-file call most width clock share f (now (part .entry)) (now (queue .entry)) (now (images .entry)) (now (format .entry)) (now (buffer .entry)) command ⌝ }
-{
-    match command {
-        Command::Hi => holding::hi(call, most, clock, share, f, part, queue),
-        Command::Ri => release::ri(call, share, queue, images, width),
-        Command::L1 => retrieval::l1(call, share, f, part, format, buffer),
-        Command::L4 => { retrieval::l4(call, most, clock, share, f, part, queue, format, buffer) }
-        Command::A1 => changing::a1(
-            call,
-            most,
-            width,
-            clock,
-            share,
-            f,
-            part,
-            queue,
-            images,
-            format,
-            buffer,
-        ),
-        Command::E1 => changing::e1(call, most, width, clock, share, f, part, queue, images),
-        Command::N1 => adding::n1(
-            call,
-            most,
-            width,
-            clock,
-            share,
-            f,
-            part,
-            queue,
-            images,
-            format,
-            buffer,
-        ),
-        Command::N2 => adding::n2(
-            call,
-            most,
-            width,
-            clock,
-            share,
-            f,
-            part,
-            queue,
-            images,
-            format,
-            buffer,
-        ),
-        Command::Et | Command::Bt | Command::Re | Command::Op | Command::Cl => {
-            shares::refused(Response::CommandUnknown, share)
-        }
-    }
 }
 
 // 17 and 113, and then the command on the file that was found.
@@ -141,13 +58,13 @@ fn in_file(
         return shares::refused(Response::FileUnknown, share);
     };
     let f = definition::file_at(d, i);
-    if isn_refused(command, call, f.max_isn) {
+    if file_commands::isn_refused(command, call, f.max_isn) {
         return shares::refused(Response::IsnInvalid, share);
     }
     let width = layout::image_length(d);
     let start = layout::file_offset(d, i);
     let end = layout::file_offset(d, i + 1);
-    on_file(
+    file_commands::on_file(
         command,
         call,
         most,
@@ -184,7 +101,7 @@ fn ri(
 {
     if call.isn == 0 {
         let width = layout::image_length(d);
-        return release::ri(call, share, queue, images, width);
+        return ending::ri(call, share, queue, images, width);
     }
     in_file(
         Command::Ri,
@@ -225,11 +142,11 @@ fn perform(
     match command {
         Command::Et => {
             let width = layout::image_length(d);
-            release::et(call, share, queue, images, width, buffer)
+            ending::et(call, share, queue, images, width, buffer)
         }
         Command::Bt => {
             let width = layout::image_length(d);
-            release::bt(call, d, width, share, store, queue, images)
+            ending::bt(call, d, width, share, store, queue, images)
         }
         Command::Re => sessions::re(share, buffer),
         Command::Op => sessions::op(call, share),
@@ -309,8 +226,9 @@ fn assigned_with(mut assigned: [u16; MAX_FILES], found: Found, isn: u16) -> [u16
     assigned
 }
 
-// One call, for any state, capacity, call and buffers.
-pub fn step(
+// A command past 29: the caller's share of the state goes to it, and what it leaves of that goes back.
+fn serve(
+    command: Command,
     mut state: State,
     capacity: usize,
     call: Call,
@@ -320,42 +238,17 @@ pub fn step(
     format: &[u8],
     buffer: &mut [u8],
 ) -> Outcome
+    requires { ⌜ (1 ≤ call .user) × (call .user ≤ 32) ⌝ }
+    requires { ⌜ valid (state .definition) ≡ true ⌝ }
+    requires { ⌜ (store-size (state .definition) ≤ length (now store)) × (capacity ≤ length (now queue)) ⌝ }
     ensures { λ r. ⌜ result (r .answer) (nucleus (r .state) (now (store .exit)) (now (queue .exit)) (now (images .exit))) (now (buffer .exit))
-        ≡ step capacity call (now (format .entry)) (now (buffer .entry)) (nucleus state (now (store .entry)) (now (queue .entry)) (now (images .entry))) ⌝ }
+        ≡ perform (request capacity command call (now (format .entry)) (now (buffer .entry))) (nucleus state (now (store .entry)) (now (queue .entry)) (now (images .entry))) ⌝ }
 {
-    let usable = usability::usable(state, capacity, store, queue, images);
-    if let Verdict::Refused(cause) = usable {
-        return refused(cause, state);
-    }
-    let understood = admission::understand(call);
-    let Understood::As(command) = understood else {
-        return refused(admission::cause(understood), state);
-    };
     let d = state.definition;
-    let users = state.users;
-    let admitted = admission::admit(
-        command,
-        call,
-        d,
-        state.clock,
-        users,
-        state.count,
-        store,
-        queue,
-        images,
-    );
-    let people = admitted.users;
-    state.clock = admitted.clock;
-    state.users = people;
-    state.count = admitted.count;
-    let verdict = admitted.verdict;
-    if let Verdict::Refused(cause) = verdict {
-        return refused(cause, state);
-    }
     let at = (call.user - 1) as usize;
     let found = layout::place(d, call.file);
     let assigned = state.last_assigned;
-    let user = admission::user_at(people, call.user);
+    let user = state.users[at];
     let et_data = state.et_data[at];
     let share = Share {
         user,
@@ -387,4 +280,61 @@ pub fn step(
     state.count = after.count;
     let answer = done.answer;
     Outcome { answer, state }
+}
+
+// One call, for any state, capacity, call and buffers.
+pub fn step(
+    mut state: State,
+    capacity: usize,
+    call: Call,
+    store: &mut [u8],
+    queue: &mut [u64],
+    images: &mut [u8],
+    format: &[u8],
+    buffer: &mut [u8],
+) -> Outcome
+    ensures { λ r. ⌜ result (r .answer) (nucleus (r .state) (now (store .exit)) (now (queue .exit)) (now (images .exit))) (now (buffer .exit))
+        ≡ step capacity call (now (format .entry)) (now (buffer .entry)) (nucleus state (now (store .entry)) (now (queue .entry)) (now (images .entry))) ⌝ }
+{
+    let usable = usability::usable(state, capacity, store, queue, images);
+    if let Verdict::Refused(cause) = usable {
+        return refused(cause, state);
+    }
+    let understood = understanding::understand(call);
+    let command = match understood {
+        Understood::As(command) => command,
+        Understood::Refused(cause) => return refused(cause, state),
+    };
+    let d = state.definition;
+    let users = state.users;
+    let admitted = admission::admit(
+        command,
+        call,
+        d,
+        state.clock,
+        users,
+        state.count,
+        store,
+        queue,
+        images,
+    );
+    let people = admitted.users;
+    state.clock = admitted.clock;
+    state.users = people;
+    state.count = admitted.count;
+    let verdict = admitted.verdict;
+    if let Verdict::Refused(cause) = verdict {
+        return refused(cause, state);
+    }
+    serve(
+        command,
+        state,
+        capacity,
+        call,
+        store,
+        queue,
+        images,
+        format,
+        buffer,
+    )
 }

@@ -1,18 +1,18 @@
--- What stands at a place of the table of commands, and what is left of a search there.
+-- What stands at a place of the table of commands, what is left of a search there, and what letters say.
 -- Assumes nothing.
 use Prim.Native.Nat.{ℕ, zero, suc, _+_, _≤_, _<_}
 use native.Mathlib.Nat.{le-of-suc-le-suc, not-suc-le-zero}
 use mathlib.Core.Path.{_≡_, refl}
 use mathlib.Core.Bool.{true, false}
 use mathlib.Core.List.{List, [], _∷_, map}
-use mathlib.Core.Option.{none, some}
+use mathlib.Core.Option.{Option, none, some}
 use lib.ListN.{length, drop, getD, drop-of-length-le}
 use Rattle.lists.specs.Tests.{eqbs}
 use Rattle.lists.specs.Rest.{drop-more}
 use Rattle.nucleus.specs.Commands.{commands, code, code-at, command-of}
 use Rattle.nucleus.specs.declared.Command.{Command}
 use Rattle.nucleus.specs.declared.Command.the-variants.{Hi}
-use Rattle.codes.specs.Codes.{command-at}
+use Rattle.codes.specs.Codes.{decoded, command-at}
 use Rattle.codes.specs.declared.Decoded.the-variants.{Known, Unknown}
 
 -- ---- at a place
@@ -46,3 +46,12 @@ module _ (letters : List ℕ) (cs : List Command) (i : ℕ) where
   pub found-nowhere : length cs ≤ i → command-of (drop i cs) letters ≡ none
   unfolding command-of
   found-nowhere h = rw (drop-of-length-le cs h)
+
+-- ---- what letters say
+pub letters-known : (o : Option Command) (c : Command) → decoded o ≡ Known c → o ≡ some c
+letters-known (some d) c e = cc
+letters-known none c e = cc
+
+pub letters-unknown : (o : Option Command) → decoded o ≡ Unknown → o ≡ none
+letters-unknown (some d) e = cc
+letters-unknown none e = refl

@@ -1,10 +1,9 @@
-// The table of commands (document 01, 'The house call list'): a command by its two letters, the options named for it, and groups of commands
-// that rules of the call speak of.
+// The table of commands (document 01, 'The house call list'): a command by its two letters, and the options named for it.
 ghost use mathlib.Core.Bool.{_&&_};
 ghost use mathlib.Core.Path.{_≡_};
 ghost use lib.Dec.{eqb};
 ghost use Rattle.lists.specs.Tests.{eqbs};
-ghost use Rattle.nucleus.specs.Commands.{commands, code-at, command-of, one-of, at-given-isn, reading-values, changing-held, on-session, serving-access-only, has-option, option-I};
+ghost use Rattle.nucleus.specs.Commands.{commands, code-at, command-of, one-of, reading-values, changing-held, has-option, option-I};
 ghost use Rattle.codes.specs.Codes.{decoded, command-at, opening-only};
 use nucleus::ACCESS_ONLY;
 use nucleus::AT_OR_ABOVE;
@@ -138,40 +137,4 @@ pub fn seeks(command: Command, option: u8) -> bool
         return option == AT_OR_ABOVE;
     }
     false
-}
-
-// Commands about the ISN that the call gives.
-pub fn at_given_isn(command: Command) -> bool
-    ensures { λ r. ⌜ r ≡ one-of at-given-isn command ⌝ }
-{
-    match command {
-        Command::Hi
-        | Command::Ri
-        | Command::L1
-        | Command::L4
-        | Command::A1
-        | Command::E1
-        | Command::N2 => true,
-        _ => false,
-    }
-}
-
-// OP and CL, which open or close a session.
-pub fn on_session(command: Command) -> bool
-    ensures { λ r. ⌜ r ≡ one-of on-session command ⌝ }
-{
-    match command {
-        Command::Op | Command::Cl => true,
-        _ => false,
-    }
-}
-
-// What an access-only user may call.
-pub fn serves_access_only(command: Command) -> bool
-    ensures { λ r. ⌜ r ≡ one-of serving-access-only command ⌝ }
-{
-    match command {
-        Command::L1 | Command::Re | Command::Op | Command::Cl => true,
-        _ => false,
-    }
 }

@@ -14,16 +14,6 @@ use Rattle.codes.proofs.Groups.{in-group}
 use Rattle.calls.specs.Commands.{in-file, about-file, performed}
 use Rattle.calls.proofs.perform.Statement.{statement}
 use Rattle.calls.proofs.perform.Tie as tie
-use Rattle.calls.proofs.perform.Reads as reads
-use Rattle.calls.proofs.perform.Lts as lts
-use Rattle.calls.proofs.in_file.Reads as in-file-reads
-use Rattle.calls.proofs.ri.Reads as ri-reads
-use Rattle.layout.proofs.image_length.Reads as image-length-reads
-use Rattle.release.proofs.bt.Reads as bt-reads
-use Rattle.release.proofs.et.Reads as et-reads
-use Rattle.sessions.proofs.cl.Reads as cl-reads
-use Rattle.sessions.proofs.op.Reads as op-reads
-use Rattle.sessions.proofs.re.Reads as re-reads
 
 -- the commands about a file, but RI
 abbrev files : List Command

@@ -3,11 +3,6 @@ use borrow.Author.Tests.{eq-eqb, ne-eqb}
 use Rattle.calls.specs.Commands.{performed}
 use Rattle.calls.proofs.ri.Statement.{statement}
 use Rattle.calls.proofs.ri.Tie as tie
-use Rattle.calls.proofs.ri.Reads as reads
-use Rattle.calls.proofs.ri.Lts as lts
-use Rattle.calls.proofs.in_file.Reads as in-file-reads
-use Rattle.layout.proofs.image_length.Reads as image-length-reads
-use Rattle.release.proofs.ri.Reads as ri-reads
 
 -- src/lib.rt:126:13
 image-length-requires : tie.Need-image-length-requires

@@ -1,27 +1,24 @@
-use mathlib.Core.Path.{_≡_, sym, ap, _∙_}
+-- `step` meets its contract: each row that refuses, and the command where none does. Assumes nothing.
+use mathlib.Core.Path.{_≡_, sym, _∙_}
 use native.Mathlib.Omega.{arith}
-use Prim.Native.Nat.{_-_, _≤_, _<_}
+use Prim.Native.Nat.{_≤_}
 use lib.ListN.{length}
-use borrow.Author.Needs.{needs}
 use mathlib.Core.Bool.{false}
 use mathlib.Core.Option.{none}
 use Rattle.lists.specs.Tests.{within-least, within-most}
 use Rattle.layout.specs.Layout.{store-size}
 use Rattle.nucleus.specs.Commands.{commands}
-use Rattle.nucleus.specs.Nucleus.{Nucleus, nucleus, beyond-data}
+use Rattle.nucleus.specs.Nucleus.{Nucleus, nucleus}
 use Rattle.nucleus.specs.WellMade.{too-short}
 use Rattle.nucleus.specs.Rows.{first-cause, rows-usable}
-use Rattle.nucleus.specs.Target.{assigned-in}
-use Rattle.overdue.specs.Laws.{read-within}
-use Rattle.shares.specs.Shares.{assigned-with}
+use Rattle.nucleus.specs.declared.Command.{Command}
 use Rattle.shares.specs.Causes.{verdict-refused, verdict-passed}
 use Rattle.usability.specs.Sizes.{store-long, queue-long}
-use Rattle.usability.proofs.Known.{state-known}
-use Rattle.nucleus.specs.declared.Command.{Command}
-use Rattle.admission.specs.Admission.{understood-as, admission-of}
-use Rattle.admission.specs.Laws.{refused-cause, understood-plain}
-use Rattle.admission.specs.declared.Understood.the-variants.{As}
-use Rattle.calls.specs.StepLaws.{step-unusable, step-misunderstood, usable-long, refused-through, performed-through}
+use Rattle.understanding.specs.Understanding.{understood-as}
+use Rattle.understanding.specs.Laws.{refused-cause, understood-plain}
+use Rattle.understanding.specs.declared.Understood.the-variants.{As}
+use Rattle.calls.specs.StepLaws.{step-unusable, step-misunderstood, usable-valid, usable-long, refused-through, performed-through}
+use borrow.Author.Needs.{needs}
 use Rattle.calls.proofs.step.Statement.{statement}
 use Rattle.calls.proofs.step.Tie as tie
 
@@ -29,7 +26,7 @@ abbrev entry : tie.After-admit → tie.Start
 entry k = k .before .before .before .before .before .before .before .before .before .before .before .before .before .before .before .before .before .before .before .before .before
 
 abbrev begun : tie.After-admit → Nucleus
-begun k = nucleus (entry k .args .t1) (entry k .args .store .now) (entry k .args .queue .now) (entry k .args .images .now)
+begun k = nucleus (entry k .args .state) (entry k .args .store .now) (entry k .args .queue .now) (entry k .args .images .now)
 
 abbrev asked : (k : tie.After-admit) → Command
 asked k = k .before .before .before .before .before .before .before .understood .given .0 .0
@@ -46,10 +43,10 @@ user-in k =
     (within-least 1 32 (entry k .args .call .user) inside, within-most 1 32 (entry k .args .call .user) inside)
 
 -- what was lent is as long as it was, and so long enough
-long : (k : tie.After-admit) → too-short (entry k .args .t1 .definition) (entry k .args .capacity) (entry k .args .store .now) (entry k .args .queue .now) (entry k .args .images .now) ≡ false
+long : (k : tie.After-admit) → too-short (entry k .args .state .definition) (entry k .args .capacity) (entry k .args .store .now) (entry k .args .queue .now) (entry k .args .images .now) ≡ false
 long k = usable-long (entry k .args .capacity) (begun k) (usable k)
 
-store-in : (k : tie.After-admit) → store-size (entry k .args .t1 .definition) ≤ length (k .admit .last .1 .1 .1 .1 .1 .1 .0)
+store-in : (k : tie.After-admit) → store-size (entry k .args .state .definition) ≤ length (k .admit .last .1 .1 .1 .1 .1 .1 .0)
 store-in k = omega (arith, store-long _ _ _ _ _ (long k), k .admit .kept .1 .1 .1 .1 .1 .1 .0)
 
 queue-in : (k : tie.After-admit) → entry k .args .capacity ≤ length (k .admit .last .1 .1 .1 .1 .1 .1 .1 .0)
@@ -76,7 +73,7 @@ same-length-3 c = search needs
 returns : tie.Need-returns
 returns c =
     let a = c .before .before .before .before .before .before .before .before .before .before .before .before .before .args in
-    let n = nucleus (a .t1) (a .store .now) (a .queue .now) (a .images .now) in
+    let n = nucleus (a .state) (a .store .now) (a .queue .now) (a .images .now) in
     let cause = c .before .before .usable2 .given .0 .0 in
     let e = verdict-refused (first-cause (rows-usable (a .capacity) n)) cause (sym (c .before .before .before .before .usable .ensures) ∙ c .before .before .usable2 .given .1) in
     rw (c .refused .ensures) (sym (step-unusable (a .capacity) (a .call) (a .format .now) (a .buffer .now) n cause e))
@@ -90,11 +87,8 @@ understand-requires c κs = search needs
 enum-known-understood : tie.Need-enum-known-understood
 enum-known-understood c = search needs
 
-enum-told-2 : tie.Need-enum-told-2
-enum-told-2 c = search needs
-
-cause-requires : tie.Need-cause-requires
-cause-requires c κs = search needs
+enum-known-understood-2 : tie.Need-enum-known-understood-2
+enum-known-understood-2 c = search needs
 
 refused-requires-2 : tie.Need-refused-requires-2
 refused-requires-2 c κs = search needs
@@ -111,11 +105,11 @@ same-length-6 c = search needs
 returns-2 : tie.Need-returns-2
 returns-2 c =
     let a = c .before .before .before .before .before .before .before .before .before .before .before .before .before .before .before .before .args in
-    let n = nucleus (a .t1) (a .store .now) (a .queue .now) (a .images .now) in
-    let told = c .before .before .enum-told2 .given in
+    let n = nucleus (a .state) (a .store .now) (a .queue .now) (a .images .now) in
+    let told = c .before .before .understood2 .given in
     let usable = verdict-passed (first-cause (rows-usable (a .capacity) n)) (sym (c .before .before .before .before .before .before .before .usable .ensures) ∙ c .before .before .before .before .before .enum-told .given .1) in
     let e = refused-cause commands (a .call) (told .0 .0) (sym (c .before .before .before .before .understand .ensures) ∙ told .1) in
-    rw (c .refused2 .ensures, c .before .cause .ensures, told .1) (sym (step-misunderstood (a .capacity) (a .call) (a .format .now) (a .buffer .now) n usable (told .0 .0) e))
+    rw (c .refused2 .ensures) (sym (step-misunderstood (a .capacity) (a .call) (a .format .now) (a .buffer .now) n usable (told .0 .0) e))
 
 admit-requires : tie.Need-admit-requires
 admit-requires c κs = search needs
@@ -140,76 +134,37 @@ returns-3 c =
     let k = c .before .before .before .before .before .before .before .before .before .before .before in
     let a = entry k .args in
     let told = c .before .before .verdict .given in
-    let e = k .admit .ensures (a .t1 .«et_data») (a .t1 .«last_assigned») in
+    let e = k .admit .ensures (a .state .«et_data») (a .state .«last_assigned») in
     rw (c .refused3 .ensures)
-    (refused-through (a .capacity) (a .call) (a .format .now) (a .buffer .now) (a .t1) (a .store .now) (a .queue .now) (a .images .now) _ _ _ _ _ _ (asked k) (usable k) (understood k) (k .admit .result .verdict) (told .0 .0) e (told .1))
+    (refused-through (a .capacity) (a .call) (a .format .now) (a .buffer .now) (a .state) (a .store .now) (a .queue .now) (a .images .now) _ _ _ _ _ _ (asked k) (usable k) (understood k) (k .admit .result .verdict) (told .0 .0) e (told .1))
 
-enum-told-3 : tie.Need-enum-told-3
-enum-told-3 c = search needs
+enum-told-2 : tie.Need-enum-told-2
+enum-told-2 c = search needs
 
-sub-at : tie.Need-sub-at
-sub-at c = user-in (c .before .before .before .before .before .before .before .before .before .before) .0
-
-cast-at : tie.Need-cast-at
-cast-at c = search needs
-
-place-requires : tie.Need-place-requires
-place-requires c κs = search needs
-
-user-at-requires : tie.Need-user-at-requires
-user-at-requires c κs = search needs
-
-mul-et-data : tie.Need-mul-et-data
-mul-et-data c = search needs
-
-element-copy-out-et-data : tie.Need-element-copy-out-et-data
-element-copy-out-et-data c = omega (arith, user-in (c .before .before .before .before .before .before .before .before .before .before .before .before .before))
-
-assigned-in-requires : tie.Need-assigned-in-requires
-assigned-in-requires c κs = search needs
-
-perform-requires : tie.Need-perform-requires
-perform-requires c κs = (c .before .before .before .before .before .before .before .before .place .ensures, store-in (c .before .before .before .before .before .before .before .before .before .before .before .before .before .before .before .before .before .before .before))
-
-assigned-with-requires : tie.Need-assigned-with-requires
-assigned-with-requires c κs = search needs
-
-mul-left-user : tie.Need-mul-left-user
-mul-left-user c = omega (arith, user-in (c .before .before .before .before .before .before .before .before .before .before .before .before .before .before .before .before .before .before .before .before .before .before .before .before .before .before .before .before .before .before .before .before))
-
-element-set-from-left-user : tie.Need-element-set-from-left-user
-element-set-from-left-user c = omega (arith, user-in (c .before .before .before .before .before .before .before .before .before .before .before .before .before .before .before .before .before .before .before .before .before .before .before .before .before .before .before .before .before .before .before .before))
-
-mul-left-data : tie.Need-mul-left-data
-mul-left-data c = omega (arith, user-in (c .before .before .before .before .before .before .before .before .before .before .before .before .before .before .before .before .before .before .before .before .before .before .before .before .before .before .before .before .before .before .before .before))
-
-element-set-from-left-data : tie.Need-element-set-from-left-data
-element-set-from-left-data c = omega (arith, user-in (c .before .before .before .before .before .before .before .before .before .before .before .before .before .before .before .before .before .before .before .before .before .before .before .before .before .before .before .before .before .before .before .before))
+serve-requires : tie.Need-serve-requires
+serve-requires c κs =
+    let k = c .before .before .before .before .before .before .before .before .before .before .before .before .before in
+    (user-in k, (usable-valid (entry k .args .capacity) (begun k) (usable k), (store-in k, queue-in k)))
 
 same-length-10 : tie.Need-same-length-10
-same-length-10 c = omega (arith, c .before .before .before .before .before .before .before .before .before .before .before .before .before .perform .kept .1 .1 .1 .1 .1 .1 .1 .0, c .before .before .before .before .before .before .before .before .before .before .before .before .before .before .before .before .before .before .before .before .before .before .before .before .before .before .before .before .before .before .before .before .before .admit .kept .1 .1 .1 .1 .1 .1 .0)
+same-length-10 c = search needs
 
 same-length-11 : tie.Need-same-length-11
-same-length-11 c = omega (arith, c .before .before .before .before .before .before .before .before .before .before .before .before .before .perform .kept .1 .1 .1 .1 .1 .1 .1 .1 .0, c .before .before .before .before .before .before .before .before .before .before .before .before .before .before .before .before .before .before .before .before .before .before .before .before .before .before .before .before .before .before .before .before .before .admit .kept .1 .1 .1 .1 .1 .1 .1 .0)
+same-length-11 c = search needs
 
 same-length-12 : tie.Need-same-length-12
-same-length-12 c = omega (arith, c .before .before .before .before .before .before .before .before .before .before .before .before .before .perform .kept .1 .1 .1 .1 .1 .1 .1 .1 .1 .0, c .before .before .before .before .before .before .before .before .before .before .before .before .before .before .before .before .before .before .before .before .before .before .before .before .before .before .before .before .before .before .before .before .before .admit .kept .1 .1 .1 .1 .1 .1 .1 .1 .0)
+same-length-12 c = search needs
 
 same-length-13 : tie.Need-same-length-13
 same-length-13 c = search needs
 
 returns-4 : tie.Need-returns-4
 returns-4 c =
-    let k = c .before .before .before .before .before .before .before .before .before .before .before .before .before .before .before .before .before .before .before .before .before .before .before .before .before .before .before .before .before .before .before .before .before in
+    let k = c .before .before .before .before .before .before .before .before .before .before .before .before .before .before .before .before .before .before .before .before .before .before in
     let a = entry k .args in
-    let told = c .before .before .before .before .before .before .before .before .before .before .before .before .before .before .before .before .before .before .before .before .before .before .before .before .enum-told3 .given in
-    let known = state-known (a .t1) _ (entry k .good .0) in
-    let e = k .admit .ensures (a .t1 .«et_data») (a .t1 .«last_assigned») in
-    performed-through (a .capacity) (a .call) (a .format .now) (a .buffer .now) (a .t1) (a .store .now) (a .queue .now) (a .images .now) _ _ _ _ _ _ (asked k) (usable k) (understood k) (k .admit .result .verdict) e (told .1) (queue-in k) (known .definition) _ _ _
-    (c .before .before .before .before .before .before .before .before .before .before .before .before .before .before .before .before .before .before .before .before .user-at .ensures)
-    (read-within (a .t1 .«et_data») (a .call .user - 1) _ beyond-data (omega (arith, user-in k, known .held)))
-    (c .before .before .before .before .before .before .before .before .before .before .before .before .before .before .before .before .before .before .assigned-in .ensures ∙ ap (assigned-in (a .t1 .«last_assigned»)) (c .before .before .before .before .before .before .before .before .before .before .before .before .before .before .before .before .before .before .before .before .before .before .place .ensures)) _ _ _ _ _ (c .before .before .before .before .before .before .before .before .before .before .before .before .before .perform .ensures) _
-    (c .before .assigned-with .ensures ∙ ap (λ at. assigned-with (a .t1 .«last_assigned») at (c .before .before .before .before .before .before .before .before .before .before .before .before .before .perform .result .share .«last_assigned»)) (c .before .before .before .before .before .before .before .before .before .before .before .before .before .before .before .before .before .before .before .before .before .before .place .ensures))
+    let e = k .admit .ensures (a .state .«et_data») (a .state .«last_assigned») in
+    c .before .before .before .before .before .before .before .before .serve .ensures
+    ∙ performed-through (a .capacity) (a .call) (a .format .now) (a .buffer .now) (a .state) (a .store .now) (a .queue .now) (a .images .now) _ _ _ _ _ _ (asked k) (usable k) (understood k) (k .admit .result .verdict) e (c .before .before .before .before .before .before .before .before .before .before .before .before .before .enum-told2 .given .1)
 
 pub step-spec : {M : Type 1} → statement M
 step-spec =
@@ -225,8 +180,7 @@ step-spec =
     enum-told
     understand-requires
     enum-known-understood
-    enum-told-2
-    cause-requires
+    enum-known-understood-2
     refused-requires-2
     same-length-4
     same-length-5
@@ -239,20 +193,8 @@ step-spec =
     same-length-8
     same-length-9
     returns-3
-    enum-told-3
-    sub-at
-    cast-at
-    place-requires
-    user-at-requires
-    mul-et-data
-    element-copy-out-et-data
-    assigned-in-requires
-    perform-requires
-    assigned-with-requires
-    mul-left-user
-    element-set-from-left-user
-    mul-left-data
-    element-set-from-left-data
+    enum-told-2
+    serve-requires
     same-length-10
     same-length-11
     same-length-12

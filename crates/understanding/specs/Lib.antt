@@ -1,0 +1,2 @@
+pub mod Understanding
+pub mod Laws
