@@ -21,7 +21,8 @@ use Rattle.shares.specs.Shares.{done}
 use Rattle.shares.specs.Chains.{left-queue, left-images}
 use Rattle.shares.specs.Outcomes.{ri-done, ri-queue, ri-images, et-done, et-queue, et-images, bt-done, re-done, re-after, op-done, cl-done}
 use Rattle.shares.specs.declared.Share.{Share}
-use Rattle.file_commands.specs.FileCommands.{Left, left, on-file, isn-refused}
+use Rattle.file_commands.specs.FileCommands.{Left, left, on-file}
+use Rattle.understanding.specs.Understanding.{isn-refused}
 
 -- ---- any command, on the whole store
 module _ (call : Call) (most clock : ℕ) (x : Share) (d : Definition) (store queue images format buffer : List ℕ) where

@@ -34,7 +34,8 @@ use Rattle.shares.specs.LawsChanging.{perform-a1, perform-e1, perform-n1, perfo
 use Rattle.shares.specs.LawsEnding.{perform-et, perform-bt, perform-re, perform-op, perform-cl}
 use Rattle.shares.specs.LawsRefused.{refusal-is, perform-unknown, perform-invalid}
 use Rattle.shares.specs.declared.Share.{Share}
-use Rattle.file_commands.specs.FileCommands.{Left, on-file, isn-refused}
+use Rattle.file_commands.specs.FileCommands.{Left, on-file}
+use Rattle.understanding.specs.Understanding.{isn-refused}
 use Rattle.calls.specs.Commands.{with-store-of, in-file, performed}
 
 -- what a test of two tests, neither of them, or both, says

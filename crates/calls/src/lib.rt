@@ -58,7 +58,7 @@ fn in_file(
         return shares::refused(Response::FileUnknown, share);
     };
     let f = definition::file_at(d, i);
-    if file_commands::isn_refused(command, call, f.max_isn) {
+    if understanding::isn_refused(command, call, f.max_isn) {
         return shares::refused(Response::IsnInvalid, share);
     }
     let width = layout::image_length(d);

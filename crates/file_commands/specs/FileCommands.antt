@@ -1,11 +1,7 @@
 -- Each command about a file on the parts that code has in hand: what it gives back, and what it leaves in what it is lent.
 use Prim.Native.Nat.{ℕ}
-use mathlib.Core.Bool.{Bool, not, _&&_}
 use mathlib.Core.List.{List}
-use lib.Dec.{eqb}
-use Rattle.lists.specs.Tests.{within}
 use Rattle.definition.specs.declared.File.{File}
-use Rattle.nucleus.specs.Commands.{one-of, at-given-isn, reading-values, option-I}
 use Rattle.nucleus.specs.Responses.{refused}
 use Rattle.nucleus.specs.Target.{isn-in}
 use Rattle.nucleus.specs.declared.Call.{Call}
@@ -64,8 +60,3 @@ module _ (call : Call) (most width clock : ℕ) (x : Share) (f : File) (part que
   on-file Re = none-here
   on-file Op = none-here
   on-file Cl = none-here
-
--- 113, first
-abbrev pub isn-refused : Command → Call → ℕ → Bool
-isn-refused c call max-isn =
-    not (one-of reading-values c && eqb (call .option) option-I) && (one-of at-given-isn c && not (within 1 max-isn (call .isn)))

@@ -1,45 +1,12 @@
-// Commands about a file (document 01: HI to N2), on that file and its part of the store; and 113 of the ISN that such a call gives.
+// Commands about a file (document 01: HI to N2), on that file and its part of the store.
 ghost use mathlib.Core.Path.{_≡_};
-ghost use Rattle.nucleus.specs.Commands.{one-of, at-given-isn};
-ghost use Rattle.file_commands.specs.FileCommands.{left, on-file, isn-refused};
+ghost use Rattle.file_commands.specs.FileCommands.{left, on-file};
 use definition::File;
 use nucleus::Call;
 use nucleus::Command;
 use nucleus::Response;
 use shares::Done;
 use shares::Share;
-
-// Commands about the ISN that the call gives.
-fn at_given_isn(command: Command) -> bool
-    ensures { λ r. ⌜ r ≡ one-of at-given-isn command ⌝ }
-{
-    match command {
-        Command::Hi
-        | Command::Ri
-        | Command::L1
-        | Command::L4
-        | Command::A1
-        | Command::E1
-        | Command::N2 => true,
-        _ => false,
-    }
-}
-
-// 113, first: the ISN that the call gives is not one of its file's. N1 is given none, and option `I` may be given any.
-pub fn isn_refused(command: Command, call: Call, max_isn: u16) -> bool
-    ensures { λ r. ⌜ r ≡ isn-refused command call «max_isn» ⌝ }
-{
-    if codes::seeks(command, call.option) {
-        return false;
-    }
-    if !at_given_isn(command) {
-        return false;
-    }
-    if call.isn < 1 {
-        return true;
-    }
-    max_isn < call.isn
-}
 
 // A command about a file, on that file and its part of the store. Commands about none have been served before.
 pub fn on_file(

@@ -1,7 +1,8 @@
-// What the command and the user of a call are taken for: the rows of 22 and 72 (document 01, 'Responses').
+// What a call's own arguments say (document 01, 'Responses'): the command and the user, 22 and 72; and 113 of the ISN that a call about a file
+// gives.
 ghost use mathlib.Core.Path.{_≡_};
-ghost use Rattle.nucleus.specs.Commands.{commands};
-ghost use Rattle.understanding.specs.Understanding.{understood-as};
+ghost use Rattle.nucleus.specs.Commands.{commands, one-of, at-given-isn};
+ghost use Rattle.understanding.specs.Understanding.{understood-as, isn-refused};
 use codes::Decoded;
 use nucleus::Call;
 use nucleus::Command;
@@ -32,4 +33,36 @@ pub fn understand(call: Call) -> Understood
         return Understood::Refused(Response::UserUnknown);
     }
     Understood::As(command)
+}
+
+// Commands about the ISN that the call gives.
+fn at_given_isn(command: Command) -> bool
+    ensures { λ r. ⌜ r ≡ one-of at-given-isn command ⌝ }
+{
+    match command {
+        Command::Hi
+        | Command::Ri
+        | Command::L1
+        | Command::L4
+        | Command::A1
+        | Command::E1
+        | Command::N2 => true,
+        _ => false,
+    }
+}
+
+// 113, first: the ISN that the call gives is not one of its file's. N1 is given none, and option `I` may be given any.
+pub fn isn_refused(command: Command, call: Call, max_isn: u16) -> bool
+    ensures { λ r. ⌜ r ≡ isn-refused command call «max_isn» ⌝ }
+{
+    if codes::seeks(command, call.option) {
+        return false;
+    }
+    if !at_given_isn(command) {
+        return false;
+    }
+    if call.isn < 1 {
+        return true;
+    }
+    max_isn < call.isn
 }

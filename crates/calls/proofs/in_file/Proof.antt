@@ -19,7 +19,8 @@ use Rattle.nucleus.specs.declared.Call.{Call}
 use Rattle.nucleus.specs.declared.Command.{Command}
 use Rattle.shares.specs.declared.Share.{Share}
 use Rattle.shares.specs.declared.Done.{Done}
-use Rattle.file_commands.specs.FileCommands.{Left, left, on-file, isn-refused}
+use Rattle.file_commands.specs.FileCommands.{Left, left, on-file}
+use Rattle.understanding.specs.Understanding.{isn-refused}
 use Rattle.calls.specs.Commands.{in-file}
 use borrow.Author.Needs.{needs}
 use Rattle.calls.proofs.in_file.Statement.{statement}

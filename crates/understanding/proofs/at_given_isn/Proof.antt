@@ -2,8 +2,8 @@
 -- Assumes nothing.
 use Rattle.nucleus.specs.Commands.{at-given-isn}
 use Rattle.codes.proofs.Groups.{in-group, not-in-group}
-use Rattle.file_commands.proofs.at_given_isn.Statement.{statement}
-use Rattle.file_commands.proofs.at_given_isn.Tie as tie
+use Rattle.understanding.proofs.at_given_isn.Statement.{statement}
+use Rattle.understanding.proofs.at_given_isn.Tie as tie
 
 returns : tie.Need-returns
 returns c = in-group at-given-isn (c .before .args .command) (c .match .keys1)

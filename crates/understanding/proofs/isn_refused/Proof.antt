@@ -6,8 +6,8 @@ use lib.Dec.{leb, ltb}
 use borrow.Author.Needs.{needs}
 use borrow.Author.Tests.{not-true, not-false, le-leb, leb-true, leb-false, le-ltb, lt-ltb}
 use Rattle.lists.specs.Tests.{Outcome, holds, fails, outcome, within-below}
-use Rattle.file_commands.proofs.isn_refused.Statement.{statement}
-use Rattle.file_commands.proofs.isn_refused.Tie as tie
+use Rattle.understanding.proofs.isn_refused.Statement.{statement}
+use Rattle.understanding.proofs.isn_refused.Tie as tie
 
 -- above the highest is not at most the highest
 above : (most isn : ℕ) → ltb most isn ≡ not (leb isn most)
