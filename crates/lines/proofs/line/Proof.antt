@@ -7,11 +7,11 @@ use lib.ListN.{length, take}
 use lib.Seq.{length-take-le}
 use Rattle.lists.specs.Parts.{take-least}
 use Rattle.nucleus.specs.Line.{numbers-part}
-use Rattle.house.specs.Digits.{numbers-most}
-use Rattle.house.specs.Writing.{put-taken, front-within, line-shown, line-plain}
+use Rattle.lines.specs.Digits.{numbers-most}
+use Rattle.lines.specs.Writing.{put-taken, front-within, line-shown, line-plain}
 use borrow.Author.Needs.{needs}
-use Rattle.house.proofs.line.Statement.{statement}
-use Rattle.house.proofs.line.Tie as tie
+use Rattle.lines.proofs.line.Statement.{statement}
+use Rattle.lines.proofs.line.Tie as tie
 
 -- how long the numbers are, in an array that takes them
 within : (c : tie.After-put-numbers) → c .put-numbers .result ≤ length (c .put-numbers .last .1 .0)

@@ -6,10 +6,10 @@ use mathlib.Core.Path.{ap, _∙_}
 use lib.ListN.{set, length-set}
 use lib.Seq.{sets}
 use Rattle.nucleus.specs.Line.{decimal}
-use Rattle.house.specs.Digits.{decimal-most}
+use Rattle.lines.specs.Digits.{decimal-most}
 use borrow.Author.Needs.{needs}
-use Rattle.house.proofs.put_next.Statement.{statement}
-use Rattle.house.proofs.put_next.Tie as tie
+use Rattle.lines.proofs.put_next.Statement.{statement}
+use Rattle.lines.proofs.put_next.Tie as tie
 
 slice-write-out : tie.Need-slice-write-out
 slice-write-out c = search needs

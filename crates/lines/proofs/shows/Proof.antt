@@ -5,10 +5,10 @@ use mathlib.Core.Bool.{and-true, and-false}
 use borrow.Author.Tests.{eq-eqb, ne-eqb}
 use Rattle.nucleus.specs.Commands.{commands, command-of}
 use Rattle.nucleus.specs.Line.{shows}
-use Rattle.house.specs.Laws.{letters-known, letters-unknown}
+use Rattle.lines.specs.Laws.{letters-known, letters-unknown}
 use borrow.Author.Needs.{needs}
-use Rattle.house.proofs.shows.Statement.{statement}
-use Rattle.house.proofs.shows.Tie as tie
+use Rattle.lines.proofs.shows.Statement.{statement}
+use Rattle.lines.proofs.shows.Tie as tie
 
 returns : tie.Need-returns
 returns c = rw (eq-eqb _ 0 (c .if1 .taken)) (sym (and-false (shows (command-of commands (c .before .args .letters)))))

@@ -7,16 +7,16 @@ use lib.ListN.{length, length-set, set}
 use lib.Seq.{sets}
 use Rattle.lists.specs.Parts.{sets-append}
 use Rattle.nucleus.specs.Line.{digit, decimal}
-use Rattle.house.specs.Digits.{decimal-one, decimal-more, length-one, length-more}
+use Rattle.lines.specs.Digits.{decimal-one, decimal-more, length-one, length-more}
 use Prim.Native.Nat.{ℕ, _+_, _/_, _%_, _<_}
 use borrow.Fn.Kinds.{In}
 use borrow.Fn.PlainCycle.{Measures, is, falls, and}
-use Rattle.house.proofs.put_decimal.Reads as put-decimal
-use Rattle.house.proofs.put_decimal.Kinds as put-decimal-kinds
-use Rattle.house.proofs.+put_decimal.Lts-put_decimal as put-decimal-lts
-use Rattle.house.proofs.digit.Reads as digit-reads
-use Rattle.house.proofs.+put_decimal.{statement}
-use Rattle.house.proofs.+put_decimal.Tie.{close}
+use Rattle.lines.proofs.put_decimal.Reads as put-decimal
+use Rattle.lines.proofs.put_decimal.Kinds as put-decimal-kinds
+use Rattle.lines.proofs.+put_decimal.Lts-put_decimal as put-decimal-lts
+use Rattle.lines.proofs.digit.Reads as digit-reads
+use Rattle.lines.proofs.+put_decimal.{statement}
+use Rattle.lines.proofs.+put_decimal.Tie.{close}
 
 abbrev μ-put-decimal : Measures 1 put-decimal-kinds.ps ℕ
 μ-put-decimal κs a = a .0

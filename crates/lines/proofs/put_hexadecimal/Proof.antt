@@ -6,9 +6,9 @@ use mathlib.Core.Path.{_≡_, refl, sym, _∙_}
 use lib.ListN.{length, drop, length-set}
 use lib.Seq.{sets}
 use Rattle.nucleus.specs.Line.{hexadecimal}
-use Rattle.house.specs.Writing.{length-hexadecimal, byte-more, byte-none}
-use Rattle.house.proofs.put_hexadecimal.Statement.{statement}
-use Rattle.house.proofs.put_hexadecimal.Tie as tie
+use Rattle.lines.specs.Writing.{length-hexadecimal, byte-more, byte-none}
+use Rattle.lines.proofs.put_hexadecimal.Statement.{statement}
+use Rattle.lines.proofs.put_hexadecimal.Tie as tie
 
 abbrev Inv-loop : tie.InvT-loop
 Inv-loop bytes at out₀ to₀ i₀ out to i =

@@ -7,10 +7,10 @@ use mathlib.Core.List.{[], _∷_, _++_}
 use lib.ListN.{length, set, drop, length-set}
 use lib.Seq.{length-take-le, length-front}
 use Rattle.nucleus.specs.Line.{hexadecimal}
-use Rattle.house.specs.Writing.{put-none, put-whole, put-then, put-blank, copied-there, length-both}
+use Rattle.lines.specs.Writing.{put-none, put-whole, put-then, put-blank, copied-there, length-both}
 use borrow.Author.Needs.{needs}
-use Rattle.house.proofs.put_both.Statement.{statement}
-use Rattle.house.proofs.put_both.Tie as tie
+use Rattle.lines.proofs.put_both.Statement.{statement}
+use Rattle.lines.proofs.put_both.Tie as tie
 
 returns : tie.Need-returns
 returns c =

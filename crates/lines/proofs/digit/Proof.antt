@@ -2,8 +2,8 @@
 -- Assumes nothing.
 use borrow.Author.Tests.{lt-ltb, le-ltb}
 use borrow.Author.Needs.{needs}
-use Rattle.house.proofs.digit.Statement.{statement}
-use Rattle.house.proofs.digit.Tie as tie
+use Rattle.lines.proofs.digit.Statement.{statement}
+use Rattle.lines.proofs.digit.Tie as tie
 
 add-result : tie.Need-add-result
 add-result c = search needs

@@ -18,9 +18,9 @@ use Rattle.slices.specs.Laws.{copied-whole}
 use Rattle.nucleus.specs.Line.{digit, hexadecimal, numbers-part, shows-bytes, line-of}
 use Rattle.nucleus.specs.declared.Call.{Call}
 use Rattle.nucleus.specs.declared.Answer.{Answer}
-use Rattle.house.specs.Digits.{numbers-most}
-use Rattle.house.specs.House.{Within, Put, Front, put-length, put-front}
-use Rattle.house.specs.Laws.{at-front}
+use Rattle.lines.specs.Digits.{numbers-most}
+use Rattle.lines.specs.Lines.{Within, Put, Front, put-length, put-front}
+use Rattle.lines.specs.Laws.{at-front}
 
 pub put-then : (old : List ℕ) (at : ℕ) (u : List ℕ) (end : ℕ) (left : List ℕ) (v : List ℕ) (end′ : ℕ) (left′ : List ℕ)
     → Put old at u end left → Put left end v end′ left′ → Put old at (u ++ v) end′ left′

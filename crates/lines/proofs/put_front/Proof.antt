@@ -2,10 +2,10 @@
 -- Assumes nothing.
 use mathlib.Core.Path.{sym}
 use lib.Seq.{length-take-le}
-use Rattle.house.specs.Writing.{put-none, put-whole, copied-there}
+use Rattle.lines.specs.Writing.{put-none, put-whole, copied-there}
 use borrow.Author.Needs.{needs}
-use Rattle.house.proofs.put_front.Statement.{statement}
-use Rattle.house.proofs.put_front.Tie as tie
+use Rattle.lines.proofs.put_front.Statement.{statement}
+use Rattle.lines.proofs.put_front.Tie as tie
 
 returns : tie.Need-returns
 returns c = let a = c .before .before .before .args in put-none (a .new .now) (a .out .now) (c .if1 .taken)

@@ -4,11 +4,11 @@ use native.Mathlib.Omega.{arith}
 use Prim.Native.Nat.{ℕ}
 use mathlib.Core.List.{List, _∷_, _++_}
 use Rattle.nucleus.specs.Line.{decimal}
-use Rattle.house.specs.Digits.{decimal-most}
-use Rattle.house.specs.Writing.{put-then}
+use Rattle.lines.specs.Digits.{decimal-most}
+use Rattle.lines.specs.Writing.{put-then}
 use borrow.Author.Needs.{needs}
-use Rattle.house.proofs.put_numbers.Statement.{statement}
-use Rattle.house.proofs.put_numbers.Tie as tie
+use Rattle.lines.proofs.put_numbers.Statement.{statement}
+use Rattle.lines.proofs.put_numbers.Tie as tie
 
 number-requires : tie.Need-number-requires
 number-requires c κs = search needs
