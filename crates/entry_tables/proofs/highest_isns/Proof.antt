@@ -10,10 +10,10 @@ use lib.Seq.{set-out}
 use Rattle.definition.specs.Table.{beyond, files-of, file-count}
 use Rattle.definition.specs.Shape.{file-next, no-file-left}
 use Rattle.definition.proofs.Known.{definition-known}
-use Rattle.well_made.specs.Tables.{highest-in}
-use Rattle.well_made.specs.Turns.{highest-none, highest-more, length-highest}
-use Rattle.well_made.proofs.highest_isns.Statement.{statement}
-use Rattle.well_made.proofs.highest_isns.Tie as tie
+use Rattle.entry_tables.specs.Tables.{highest-in}
+use Rattle.entry_tables.specs.Turns.{highest-none, highest-more, length-highest}
+use Rattle.entry_tables.proofs.highest_isns.Statement.{statement}
+use Rattle.entry_tables.proofs.highest_isns.Tie as tie
 
 abbrev Inv-loop : tie.InvT-loop
 Inv-loop d table₀ i₀ table i = (i ≤ file-count d) × (table ≡ highest-in (drop i (files-of d)))

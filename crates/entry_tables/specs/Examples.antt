@@ -7,7 +7,7 @@ use Rattle.definition.specs.declared.File.{File}
 use Rattle.entries.specs.declared.Entry.{Entry}
 use Rattle.nucleus.specs.Users.{started, opening, fresh-user}
 use Rattle.nucleus.specs.declared.User.{User}
-use Rattle.well_made.specs.Tables.{highest-in, active-users, entry-fits}
+use Rattle.entry_tables.specs.Tables.{highest-in, active-users, entry-fits}
 
 file : ℕ → ℕ → File
 file number highest = record { number = number; «max_isn» = highest; count = 0; fields = [] }

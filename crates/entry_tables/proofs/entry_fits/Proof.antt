@@ -6,11 +6,11 @@ use mathlib.Core.Path.{sym}
 use mathlib.Core.Bool.{false}
 use lib.ListN.{length, getD, List·getD-eq-default}
 use Rattle.lists.specs.Tests.{within, within-inside, within-below, within-above, and-false}
-use Rattle.well_made.specs.Tables.{entry-fits}
-use Rattle.well_made.specs.Turns.{within-nothing}
+use Rattle.entry_tables.specs.Tables.{entry-fits}
+use Rattle.entry_tables.specs.Turns.{within-nothing}
 use borrow.Author.Needs.{needs}
-use Rattle.well_made.proofs.entry_fits.Statement.{statement}
-use Rattle.well_made.proofs.entry_fits.Tie as tie
+use Rattle.entry_tables.proofs.entry_fits.Statement.{statement}
+use Rattle.entry_tables.proofs.entry_fits.Tie as tie
 
 cast-file : tie.Need-cast-file
 cast-file c = search needs

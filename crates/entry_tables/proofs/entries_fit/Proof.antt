@@ -7,11 +7,11 @@ use borrow.Author.Tests.{not-true, not-false}
 use Rattle.lists.specs.Folds.{all}
 use Rattle.entries.specs.Entries.{entries}
 use Rattle.entries.specs.Laws.{entry-next, no-entry-left}
-use Rattle.well_made.specs.Tables.{entry-fits}
+use Rattle.entry_tables.specs.Tables.{entry-fits}
 use native.Mathlib.Omega.{arith}
 use borrow.Author.Needs.{needs}
-use Rattle.well_made.proofs.entries_fit.Statement.{statement}
-use Rattle.well_made.proofs.entries_fit.Tie as tie
+use Rattle.entry_tables.proofs.entries_fit.Statement.{statement}
+use Rattle.entry_tables.proofs.entries_fit.Tie as tie
 
 abbrev Inv-loop : tie.InvT-loop
 Inv-loop queue count highest active n i₀ i = (n ≡ min count (length queue)) × (i ≤ n) × (all (entry-fits highest active) (entries queue count) ≡ all (entry-fits highest active) (drop i (entries queue count)))

@@ -9,11 +9,11 @@ use borrow.Author.Needs.{needs}
 use Rattle.lists.specs.Rest.{write-more, write-all}
 use Rattle.nucleus.specs.Users.{is-active}
 use Rattle.nucleus.specs.declared.User.{User}
-use Rattle.well_made.specs.Tables.{active-users}
-use Rattle.well_made.specs.Turns.{length-active, active-at, nobody-active}
+use Rattle.entry_tables.specs.Tables.{active-users}
+use Rattle.entry_tables.specs.Turns.{length-active, active-at, nobody-active}
 use native.Mathlib.Omega.{arith}
-use Rattle.well_made.proofs.active_users.Statement.{statement}
-use Rattle.well_made.proofs.active_users.Tie as tie
+use Rattle.entry_tables.proofs.active_users.Statement.{statement}
+use Rattle.entry_tables.proofs.active_users.Tie as tie
 
 -- what a list of users reads past its end
 abbrev beyond : User

@@ -29,8 +29,8 @@ use Rattle.nucleus.specs.Nucleus.{max-users}
 use Rattle.nucleus.specs.WellMade.{entry-made}
 use Rattle.nucleus.specs.declared.User.{User}
 use Rattle.nucleus.specs.declared.State.{State}
-use Rattle.well_made.specs.Tables.{highest-isn, highest-isns, active-users, entry-fits}
-use Rattle.well_made.specs.Turns.{within-nothing, length-highest, highest-at, nobody-at, active-at}
+use Rattle.entry_tables.specs.Tables.{highest-isn, highest-isns, active-users, entry-fits}
+use Rattle.entry_tables.specs.Turns.{within-nothing, length-highest, highest-at, nobody-at, active-at}
 
 -- ---- the first of some files that has a number
 abbrev Has : List File → ℕ → ℕ → Type 0

@@ -2,8 +2,8 @@
 -- Assumes nothing.
 use mathlib.Core.Path.{_∙_}
 use borrow.Author.Needs.{needs}
-use Rattle.well_made.proofs.entries_made.Statement.{statement}
-use Rattle.well_made.proofs.entries_made.Tie as tie
+use Rattle.entry_tables.proofs.entries_made.Statement.{statement}
+use Rattle.entry_tables.proofs.entries_made.Tie as tie
 
 highest-isns-requires : tie.Need-highest-isns-requires
 highest-isns-requires c κs = search needs
