@@ -1,7 +1,7 @@
 -- `op` meets its contract. Assumes nothing.
 use borrow.Author.Needs.{needs}
-use Rattle.sessions.proofs.op.Statement.{statement}
-use Rattle.sessions.proofs.op.Tie as tie
+use Rattle.session_commands.proofs.op.Statement.{statement}
+use Rattle.session_commands.proofs.op.Tie as tie
 
 set-session-requires : tie.Need-set-session-requires
 set-session-requires c κs = search needs

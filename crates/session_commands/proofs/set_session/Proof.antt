@@ -1,7 +1,7 @@
 -- `set_session` meets its contract. Assumes nothing.
 use borrow.Author.Needs.{needs}
-use Rattle.sessions.proofs.set_session.Statement.{statement}
-use Rattle.sessions.proofs.set_session.Tie as tie
+use Rattle.session_commands.proofs.set_session.Statement.{statement}
+use Rattle.session_commands.proofs.set_session.Tie as tie
 
 or-default-requires : tie.Need-or-default-requires
 or-default-requires c κs = search needs

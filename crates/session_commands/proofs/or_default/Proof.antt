@@ -1,7 +1,7 @@
 -- `or_default` meets its contract. Assumes nothing.
 use borrow.Author.Tests.{eq-eqb, ne-eqb}
-use Rattle.sessions.proofs.or_default.Statement.{statement}
-use Rattle.sessions.proofs.or_default.Tie as tie
+use Rattle.session_commands.proofs.or_default.Statement.{statement}
+use Rattle.session_commands.proofs.or_default.Tie as tie
 
 returns : tie.Need-returns
 returns c = rw (eq-eqb _ _ (c .if1 .taken))
