@@ -148,9 +148,9 @@ fn perform(
             let width = layout::image_length(d);
             ending::bt(call, d, width, share, store, queue, images)
         }
-        Command::Re => sessions::re(share, buffer),
-        Command::Op => sessions::op(call, share),
-        Command::Cl => sessions::cl(share),
+        Command::Re => session_commands::re(share, buffer),
+        Command::Op => session_commands::op(call, share),
+        Command::Cl => session_commands::cl(share),
         Command::Ri => ri(
             call,
             most,

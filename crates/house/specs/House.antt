@@ -1,16 +1,15 @@
--- The house call list (document 01): one item of the definition table and one call as bytes, and a line written into a lent buffer.
-use Prim.Native.Nat.{ℕ, _+_, _-_, _*_, _≤_}
-use mathlib.Core.Path.{_≡_}
+-- The house call list (document 01): one item of the definition table and one call as bytes.
+use Prim.Native.Nat.{ℕ, _+_, _-_, _*_}
 use mathlib.Core.Bool.{Bool, true, _&&_}
-use mathlib.Core.List.{List, _++_}
+use mathlib.Core.List.{List}
 use mathlib.Core.Option.{Option, none, some}
 use lib.Dec.{eqb, leb}
 use lib.ListN.{length, getD, take, drop}
-use lib.Seq.{sets}
 use Rattle.lists.specs.Tests.{cond, within}
 use Rattle.nucleus.specs.Commands.{code-at}
 use Rattle.nucleus.specs.Nucleus.{Given, given}
 use Rattle.nucleus.specs.declared.Call.{Call}
+use Rattle.lines.specs.Lines.{Within}
 use Rattle.house.specs.declared.Rest.{Rest}
 use Rattle.house.specs.declared.Rest.the-variants.{Bytes, Unknown}
 use Rattle.house.specs.declared.Sent.{Sent}
@@ -99,10 +98,6 @@ call-of bytes = cond (well-formed bytes) (some (given-by bytes)) none
 unfoldable pub sent-as : Sent → Option Given
 sent-as s = cond (s .good) (some (given (s .call) (take (s .«format_length») (s .format)) (take (s .«buffer_length») (s .buffer)))) none
 
--- so many lie at the front of a list. The second part follows from the first, and is what a caller has to show who lends them
-abbrev pub Within : ℕ → List ℕ → Type 0
-Within n l = (n ≤ length l) × (n ≡ length (take n l))
-
 abbrev pub Lengths : Sent → Type 0
 Lengths s = Within (s .«format_length») (s .format) × Within (s .«buffer_length») (s .buffer)
 
@@ -116,17 +111,3 @@ whole bytes = record {
   buffer = take 35 (drop buffer-at bytes);
   «buffer_length» = byte bytes buffer-length-at;
 }
-
--- ---- bytes at a place of a lent buffer: the place behind them, and what is in the buffer then
-abbrev pub Put : List ℕ → ℕ → List ℕ → ℕ → List ℕ → Type 0
-Put old at new end left = (end ≡ at + length new) × (left ≡ sets old at new)
-
--- ---- bytes at the front of a lent buffer: all of them, or where it is too short none
-unfoldable pub put-length : List ℕ → List ℕ → ℕ
-put-length new old = cond (leb (length new) (length old)) (length new) 0
-
-unfoldable pub put-front : List ℕ → List ℕ → List ℕ
-put-front new old = cond (leb (length new) (length old)) (new ++ drop (length new) old) old
-
-abbrev pub Front : List ℕ → List ℕ → ℕ → List ℕ → Type 0
-Front new old end left = (end ≡ put-length new old) × (left ≡ put-front new old)

@@ -1,24 +1,18 @@
--- What a well-formed call has, and what letters say.
+-- What a well-formed call has.
 -- Assumes nothing.
 use Prim.Native.Nat.{ℕ, _≤_}
 use native.Mathlib.Omega.{arith}
-use mathlib.Core.Path.{_≡_, refl, sym, ap}
+use mathlib.Core.Path.{_≡_}
 use mathlib.Core.Bool.{true}
 use mathlib.Core.List.{List}
-use mathlib.Core.Option.{Option, none, some}
 use lib.Dec.{leb}
 use lib.ListN.{length, drop}
-use lib.Seq.{take-take, length-take-le}
+use lib.Seq.{take-take}
 use Rattle.lists.specs.Parts.{length-piece}
 use borrow.Author.Tests.{leb-true}
 use Rattle.lists.specs.Tests.{within, within-least, and-left, and-right}
-use Rattle.nucleus.specs.declared.Command.{Command}
-use Rattle.codes.specs.Codes.{decoded}
-use Rattle.codes.specs.declared.Decoded.the-variants.{Known, Unknown}
-use Rattle.house.specs.House.{kind-at, format-length-at, format-at, buffer-length-at, buffer-at, call-length, byte, well-formed, given-by, whole, call-of, sent-as, Within, Lengths}
-
-pub at-front : (n : ℕ) (l : List ℕ) → n ≤ length l → Within n l
-at-front n l h = (h, sym (length-take-le n l h))
+use Rattle.lines.specs.Laws.{at-front}
+use Rattle.house.specs.House.{kind-at, format-length-at, format-at, buffer-length-at, buffer-at, call-length, byte, well-formed, given-by, whole, call-of, sent-as, Lengths}
 
 module _ (bytes : List ℕ) (formed : well-formed bytes ≡ true) where
   pub formed-length : call-length ≤ length bytes
@@ -55,12 +49,3 @@ module _ (bytes : List ℕ) (formed : well-formed bytes ≡ true) where
   unfolding sent-as call-of given-by
   formed-sent =
       rw (formed, take-take (byte bytes format-length-at) 16 (drop format-at bytes) formed-format, take-take (byte bytes buffer-length-at) 35 (drop buffer-at bytes) formed-buffer)
-
--- ---- two letters, as code answers them
-pub letters-known : (o : Option Command) (c : Command) → decoded o ≡ Known c → o ≡ some c
-letters-known none c e = absurd (let z : _≡_ {A = ℕ} 0 1 = cc in omega arith)
-letters-known (some d) c e = let same : d ≡ c = cc in ap some same
-
-pub letters-unknown : (o : Option Command) → decoded o ≡ Unknown → o ≡ none
-letters-unknown none e = refl
-letters-unknown (some d) e = absurd (let z : _≡_ {A = ℕ} 0 1 = cc in omega arith)

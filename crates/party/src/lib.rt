@@ -2,7 +2,7 @@
 // line is printed. What has to be decided is decided below; here it is read and written. Nothing is held but the table and one call.
 ghost use Prim.Native.Nat.{_≤_};
 ghost use lib.ListN.{length};
-ghost use Rattle.house.specs.House.{Within};
+ghost use Rattle.lines.specs.Lines.{Within};
 use house::Rest;
 use libc::STDOUT_FILENO;
 use nucleus::Answer;
@@ -19,7 +19,7 @@ const CAPACITY: usize = 64;
 
 const IMAGES: usize = 32768;
 
-// A line has at most 84 bytes, and two for each of a record buffer (house, `line-most`).
+// A line has at most 84 bytes, and two for each of a record buffer (lines, `line-most`).
 const LINE: usize = 154;
 
 // The state, and how many calls may come still. No list ends by that count, but a loop has to end, and nothing says that the input does.
@@ -76,7 +76,7 @@ fn read_table(fd: i32, table: &mut [u8]) -> usize
 
 fn print_line(call: Call, answer: Answer, buffer: &[u8]) {
     let mut line = [0u8; LINE];
-    let n = house::line(call, answer, buffer, &mut line);
+    let n = lines::line(call, answer, buffer, &mut line);
     io::write_all(STDOUT_FILENO, &line[..n]);
     io::write_all(STDOUT_FILENO, b"\n");
 }
@@ -152,7 +152,7 @@ pub fn run(fd: i32) {
     let mut images = [0u8; IMAGES];
     let nucleus = setup::set_up(&table[..length], CAPACITY, &mut store, &queue, &images);
     let response = nucleus.response;
-    if house::number(response) != 0 {
+    if lines::number(response) != 0 {
         print_bad();
         return;
     }

@@ -48,7 +48,7 @@ pub fn usable(state: State, capacity: usize, store: &[u8], queue: &[u64], images
         return Verdict::Refused(Response::StateInvalid);
     }
     let users = state.users;
-    if !well_made::entries_made(d, users, queue, count) {
+    if !entry_tables::entries_made(d, users, queue, count) {
         return Verdict::Refused(Response::StateInvalid);
     }
     if !well_made::users_made(users, state.clock) {

@@ -1,4 +1,1 @@
-pub mod Tables
 pub mod Turns
-pub mod Laws
-pub mod Examples

@@ -4,7 +4,7 @@ use Prim.Native.Nat.{_-_}
 use native.Mathlib.Omega.{arith}
 use mathlib.Core.Path.{_≡_, refl, _∙_}
 use lib.ListN.{length}
-use Rattle.house.specs.Laws.{at-front}
+use Rattle.lines.specs.Laws.{at-front}
 use borrow.Author.Needs.{needs}
 use Rattle.party.proofs.read_table.Statement.{statement}
 use Rattle.party.proofs.read_table.Tie as tie

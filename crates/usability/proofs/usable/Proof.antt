@@ -14,7 +14,7 @@ use Rattle.nucleus.specs.Rows.{first-cause, rows-usable}
 use Rattle.nucleus.specs.declared.Response.the-variants.{StateInvalid}
 use Rattle.shares.specs.Shares.{verdict}
 use Rattle.shares.specs.declared.Verdict.the-variants.{Refused}
-use Rattle.well_made.specs.Laws.{entries-judged}
+use Rattle.entry_tables.specs.Laws.{entries-judged}
 use Rattle.usability.specs.Laws.{table-refused, sizes-refused, state-refused, state-passed, too-many, two-alike, entries-badly, users-badly, assigned-badly, data-badly, all-made}
 use Rattle.usability.proofs.Known.{state-known}
 use Rattle.usability.proofs.usable.Statement.{statement}
