@@ -63,7 +63,7 @@ fn in_file(
     }
     let width = layout::image_length(d);
     let start = layout::file_offset(d, i);
-    let end = layout::file_offset(d, i + 1);
+    let end = start + layout::file_size(f);
     file_commands::on_file(
         command,
         call,

@@ -9,7 +9,8 @@ use definition::File;
 use definition::MAX_FILES;
 use records::Found;
 
-fn file_size(f: File) -> usize
+// The bytes that a file takes in the store.
+pub fn file_size(f: File) -> usize
     ensures { λ r. ⌜ r ≡ file-size f ⌝ }
 {
     (f.max_isn as usize) * records::slot_length(f)

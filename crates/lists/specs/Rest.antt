@@ -48,6 +48,13 @@ module _ {A : Type 0} where
   pub drop-more : (l : List A) (i : ℕ) (d : A) → i < length l → drop i l ≡ getD l i d ∷ drop (i + 1) l
   drop-more l i d h = rw (add-one i) (drop-cons l i d h)
 
+  -- within a list no default is read
+  pub read-within : (l : List A) (i : ℕ) (d e : A) → i < length l → getD l i d ≡ getD l i e
+  read-within l i d e h =
+      let p = drop-more l i d h in
+      let q = drop-more l i e h in
+      cc
+
   -- ---- one turn of a loop that writes `new` over `old` from the front
   write-suc : (new old : List A) (i : ℕ) (d : A) → i < length new → i < length old → set (take i new ++ drop i old) i (getD new i d) ≡ take (suc i) new ++ drop (suc i) old
   write-suc [] old i d h k = absurd (not-suc-le-zero h)

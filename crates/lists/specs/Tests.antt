@@ -1,17 +1,17 @@
 -- Tests: a choice by a test, a number between two, and what `&&`, `||` and `not` say of their parts.
 -- Assumes nothing.
 use mathlib.Core.Path.{_≡_, refl, sym, ap}
-use mathlib.Core.Bool.{Bool, true, false, _&&_, _||_}
+use mathlib.Core.Bool.{Bool, true, false, not, _&&_, _||_}
 -- `cond b x y` is x where b holds, else y
 pub use mathlib.Core.Bool.{cond, and-false, or-true}
 use Prim.Native.Nat.{ℕ, suc, _+_, _≤_, _<_}
 use native.Mathlib.Numerals.{add-one}
 use native.Mathlib.Omega.{arith}
 use mathlib.Core.List.{List, [], _∷_}
-use lib.Dec.{T, leb, eqb, eqb-refl}
+use lib.Dec.{T, leb, ltb, eqb, eqb-refl}
 use lib.ListN.{length, drop, getD, drop-of-length-le}
 use lib.Seq.{drop-cons}
-use borrow.Author.Tests.{le-leb, lt-leb, leb-true, eqb-true, eq-eqb}
+use borrow.Author.Tests.{le-leb, lt-leb, leb-true, leb-false, le-ltb, lt-ltb, eqb-true, eq-eqb}
 
 -- at least the first number and at most the second
 abbrev pub within : ℕ → ℕ → ℕ → Bool
@@ -62,6 +62,14 @@ module _ (lo hi n : ℕ) where
 
   pub within-most : within lo hi n ≡ true → n ≤ hi
   within-most h = leb-true n hi (and-right (leb lo n) (leb n hi) h)
+
+-- less is not at least
+pub less-is : (m n : ℕ) → ltb m n ≡ not (leb n m)
+less-is m n = go (outcome (leb n m))
+  where
+    go : Outcome (leb n m) → ltb m n ≡ not (leb n m)
+    go (holds t) = rw (t, le-ltb m n (leb-true n m t))
+    go (fails t) = rw (t, lt-ltb m n (leb-false n m t))
 
 -- ---- equal numbers, equal lists of numbers
 pub eqb-self : (n : ℕ) → eqb n n ≡ true

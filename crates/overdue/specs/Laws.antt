@@ -8,7 +8,6 @@ use mathlib.Core.Bool.{true, false}
 use mathlib.Core.List.{List}
 use lib.ListN.{length, getD, set}
 use lib.Seq.{getD-set-same, set-set}
-use Rattle.lists.specs.Rest.{drop-more}
 use Rattle.layout.specs.Layout.{image-length}
 use Rattle.hold.specs.Hold.{restore}
 use Rattle.removal.specs.Removal.{remove-queue, remove-images, remove-count}
@@ -20,13 +19,6 @@ use Rattle.nucleus.specs.Clock.{removed, backed-out, timed-out, timed-out-from,
 use Rattle.nucleus.specs.declared.EtData.{EtData}
 use Rattle.nucleus.specs.declared.User.{User}
 use Rattle.overdue.specs.Parts.{parts}
-
--- within a list no default is read
-pub read-within : {A : Type 0} (l : List A) (i : ℕ) (d e : A) → i < length l → getD l i d ≡ getD l i e
-read-within l i d e h =
-    let p = drop-more l i d h in
-    let q = drop-more l i e h in
-    cc
 
 module _ (d : Definition) (clock : ℕ) (users : List User) (kept : List EtData) (assigned : List ℕ) (count : ℕ) (store queue images : List ℕ) where
   -- the nucleus without a user's entries, with what they changed put back, and with other users

@@ -30,7 +30,6 @@ pub fn pass(
         → timed-out-from max-users 1 (parts d clock users kept assigned count (now (store .entry)) (now (queue .entry)) (now (images .entry)))
         ≡ parts d clock (r .users) kept assigned (r .count) (now (store .exit)) (now (queue .exit)) (now (images .exit))) ⌝ }
 {
-    let width = layout::image_length(d);
     let mut people = users;
     let mut left = count;
     let mut i = 0;
@@ -39,6 +38,7 @@ pub fn pass(
         let user = people[at];
         i += 1;
         if sessions::is_due(user, clock) {
+            let width = layout::image_length(d);
             left = release::back_out(d, width, i as u8, store, queue, images, left);
             people[at] = sessions::with_overdue(release::ended(user), true);
         }

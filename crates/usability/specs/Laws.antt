@@ -3,9 +3,8 @@
 use Prim.Native.Nat.{ℕ}
 use mathlib.Core.Path.{_≡_}
 use mathlib.Core.Bool.{Bool, true, false, not, _&&_}
-use lib.Dec.{leb, ltb}
-use borrow.Author.Tests.{leb-true, leb-false, le-ltb, lt-ltb}
-use Rattle.lists.specs.Tests.{Outcome, holds, fails, outcome, and-false}
+use lib.Dec.{leb}
+use Rattle.lists.specs.Tests.{and-false}
 use Rattle.lists.specs.Folds.{all}
 use Rattle.definition.specs.Table.{files-of}
 use Rattle.definition.specs.declared.Definition.{Definition}
@@ -18,14 +17,6 @@ use Rattle.nucleus.specs.declared.Response.the-variants.{BufferTooShort, StateI
 use Rattle.shares.specs.Shares.{verdict}
 use Rattle.shares.specs.declared.Verdict.{Verdict}
 use Rattle.shares.specs.declared.Verdict.the-variants.{Passed, Refused}
-
--- less is not at least
-pub less-is : (m n : ℕ) → ltb m n ≡ not (leb n m)
-less-is m n = go (outcome (leb n m))
-  where
-    go : Outcome (leb n m) → ltb m n ≡ not (leb n m)
-    go (holds t) = rw (t, le-ltb m n (leb-true n m t))
-    go (fails t) = rw (t, lt-ltb m n (leb-false n m t))
 
 fails-left : (a b : Bool) → a ≡ false → (a && b) ≡ false
 fails-left a b e = rw e

@@ -3,7 +3,7 @@
 use mathlib.Core.Path.{sym, _∙_}
 use lib.ListN.{List·getD-eq-default}
 use Rattle.nucleus.specs.Users.{fresh-user}
-use Rattle.overdue.specs.Laws.{read-within}
+use Rattle.lists.specs.Rest.{read-within}
 use borrow.Author.Needs.{needs}
 use Rattle.admission.proofs.user_at.Statement.{statement}
 use Rattle.admission.proofs.user_at.Tie as tie

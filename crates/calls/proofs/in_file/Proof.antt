@@ -1,19 +1,20 @@
 -- `in_file` meets its contract: the file's part of the store lies where `file-part` has it. Assumes nothing.
 use native.Mathlib.Omega.{arith}
 use mathlib.Core.Path.{_≡_, sym, ap, _∙_}
-use Prim.Native.Nat.{ℕ, _+_, _-_, _≤_, _<_}
+use Prim.Native.Nat.{ℕ, _+_, _-_, _*_, _≤_, _<_}
 use mathlib.Core.Bool.{false}
 use mathlib.Core.List.{List, _++_}
 use lib.ListN.{length, take, drop}
 use Rattle.definition.specs.Table.{file-at, file-count}
-use Rattle.definition.specs.Shape.{DefinitionShape, file-or-none-at}
+use Rattle.definition.specs.Shape.{DefinitionShape, file-shape-at, file-or-none-at}
 use Rattle.definition.specs.declared.Definition.{Definition}
 use Rattle.definition.specs.declared.File.{File}
 use Rattle.definition.proofs.Known.{definition-known}
 use Rattle.records.specs.Records.{file-size}
+use Rattle.records.specs.Bounds.{file-size-most}
 use Rattle.records.specs.declared.Found.the-variants.{At}
-use Rattle.layout.specs.Layout.{file-offset, image-length}
-use Rattle.layout.specs.Laws.{place-found, file-follows, file-within}
+use Rattle.layout.specs.Layout.{file-offset, store-size, image-length}
+use Rattle.layout.specs.Laws.{place-found, file-within, store-size-most}
 use Rattle.store.specs.Files.{file-part-is, with-part-is}
 use Rattle.nucleus.specs.declared.Call.{Call}
 use Rattle.nucleus.specs.declared.Command.{Command}
@@ -58,15 +59,19 @@ file-is : (c : tie.After-file-at) → c .file-at .result ≡ file-at (entry (c .
 file-is c = c .file-at .ensures ∙ file-or-none-at (entry (c .before) .args .d) (found-file (c .before)) (inside (c .before))
 
 -- the part begins at the file's offset, has the file's size and ends within the store
-ends : (c : tie.After-file-offset2) → let k = c .before .before .before .before .before .before in
-    (c .file-offset2 .result ≡ c .before .file-offset .result + file-size (file-at (entry k .args .d) (found-file k))) × (c .file-offset2 .result ≤ length (entry k .args .store .now))
+ends : (c : tie.After-file-size) → let k = c .before .before .before .before .before .before in
+    (c .file-size .result ≡ file-size (file-at (entry k .args .d) (found-file k))) × (c .before .file-offset .result + c .file-size .result ≤ store-size (entry k .args .d))
 ends c =
     let k = c .before .before .before .before .before .before in
+    let size = c .file-size .ensures ∙ ap file-size (file-is (c .before .before .before .before .before)) in
+    (size, omega (arith, size, c .before .file-offset .ensures, file-within (entry k .args .d) (shape k) (found-file k) (inside k)))
+
+-- and no store is too large for a number
+bounded : (k : tie.After-known-told) → store-size (entry k .args .d) ≤ 16 * 267448335
+bounded k =
     let d = entry k .args .d in
-    let next = file-follows d (shape k) (found-file k) (inside k) in (
-      omega (arith, next, c .file-offset2 .ensures, c .before .file-offset .ensures),
-      omega (arith, next, c .file-offset2 .ensures, file-within d (shape k) (found-file k) (inside k), entry k .pre .1),
-    )
+    let most = store-size-most d (shape k) 267448335 (λ i h. file-size-most (file-at d i) (file-shape-at d (shape k) i (omega arith))) in
+    omega (arith, most)
 
 enum-known-found : tie.Need-enum-known-found
 enum-known-found c = search needs
@@ -104,20 +109,20 @@ image-length-requires c κs = search needs
 file-offset-requires : tie.Need-file-offset-requires
 file-offset-requires c κs = search needs
 
-add-file-offset : tie.Need-add-file-offset
-add-file-offset c = omega (arith, inside (c .before .before .before .before .before))
+file-size-requires : tie.Need-file-size-requires
+file-size-requires c κs = search needs
 
-file-offset-requires-2 : tie.Need-file-offset-requires-2
-file-offset-requires-2 c κs = search needs
+add-end : tie.Need-add-end
+add-end c = omega (arith, ends c, bounded (c .before .before .before .before .before .before))
 
 sub-on-file : tie.Need-sub-on-file
 sub-on-file c = omega (arith, ends c)
 
 part-on-file-start : tie.Need-part-on-file-start
-part-on-file-start c = omega (arith, ends c)
+part-on-file-start c = omega (arith, ends c, entry (c .before .before .before .before .before .before) .pre .1)
 
 part-on-file-end : tie.Need-part-on-file-end
-part-on-file-end c = omega (arith, ends c)
+part-on-file-end c = omega (arith, ends c, entry (c .before .before .before .before .before .before) .pre .1)
 
 on-file-requires : tie.Need-on-file-requires
 on-file-requires c κs = search needs
@@ -142,7 +147,7 @@ returns-3 c =
     let b = e .before .before .before .before in
     let k = b .before .before in
     let a = entry k .args in
-    let size : e .file-offset2 .result - e .before .file-offset .result ≡ file-size (file-at (a .d) (found-file k)) = omega (arith, ends e) in
+    let size : e .before .file-offset .result + e .file-size .result - e .before .file-offset .result ≡ file-size (file-at (a .d) (found-file k)) = omega (arith, ends e) in
     let no = ap (λ f. isn-refused (a .command) (a .call) (f .«max_isn»)) (sym (file-is (b .before))) ∙ sym (b .isn-refused .ensures) ∙ e .before .before .before .if1 .left in
     rw (there k)
     (handed (a .call) (a .most) (a .clock) (a .share) (a .d) (a .store .now) (a .queue .now) (a .images .now) (a .format .now) (a .buffer .now) (a .command) (found-file k)
@@ -162,8 +167,8 @@ in-file-spec =
     returns-2
     image-length-requires
     file-offset-requires
-    add-file-offset
-    file-offset-requires-2
+    file-size-requires
+    add-end
     sub-on-file
     part-on-file-start
     part-on-file-end

@@ -5,7 +5,7 @@ use Prim.Native.Nat.{_-_, _<_}
 use Rattle.nucleus.specs.Users.{fresh-user}
 use Rattle.nucleus.specs.Nucleus.{beyond-data}
 use Rattle.nucleus.specs.Target.{assigned-in}
-use Rattle.overdue.specs.Laws.{read-within}
+use Rattle.lists.specs.Rest.{read-within}
 use Rattle.shares.specs.Shares.{assigned-with}
 use Rattle.usability.proofs.Known.{state-known}
 use Rattle.calls.specs.StepLaws.{served}

@@ -13,14 +13,11 @@ use Rattle.overdue.proofs.pass.Statement.{statement}
 use Rattle.overdue.proofs.pass.Tie as tie
 
 abbrev Inv-loop : tie.InvT-loop
-Inv-loop d clock count store₀ queue₀ images₀ width people₀ left₀ i₀ store queue images people left i =
+Inv-loop d clock count store₀ queue₀ images₀ people₀ left₀ i₀ store queue images people left i =
     Pending d clock store₀ queue₀ images₀ people₀ left₀ store queue images people left i
 
 abbrev μ-loop : tie.MeasureT-loop
-μ-loop d clock count store₀ queue₀ images₀ width people₀ left₀ i₀ store queue images people left i = max-users - i
-
-image-length-requires : tie.Need-image-length-requires Inv-loop μ-loop
-image-length-requires c κs = search needs
+μ-loop d clock count store₀ queue₀ images₀ people₀ left₀ i₀ store queue images people left i = max-users - i
 
 loop-holds : tie.Need-loop-holds Inv-loop μ-loop
 loop-holds c = start (search needs)
@@ -36,6 +33,9 @@ add-i c = search needs
 
 is-due-requires : tie.Need-is-due-requires Inv-loop μ-loop
 is-due-requires c κs = search needs
+
+image-length-requires : tie.Need-image-length-requires Inv-loop μ-loop
+image-length-requires c κs = search needs
 
 cast-back-out : tie.Need-cast-back-out Inv-loop μ-loop
 cast-back-out c = search needs
@@ -61,11 +61,12 @@ loop-less c = search needs
 loop-again : tie.Need-loop-again Inv-loop μ-loop
 loop-again c =
     let o = c .before .before .before .before .before .before .before .before in
-    let t = o .before .before .before .before in
+    let w = o .before .before .before .before in
+    let t = w .before in
     let l = t .before .before .before .before in
     let e = o .back-out .ensures in
     let k = o .back-out .kept .1 .1 .1 in
-    turn-due (l .loop .inv) (omega arith) _ _ _ _ _ _ _ (l .before .image-length .ensures)
+    turn-due (l .loop .inv) (omega arith) _ _ _ _ _ _ _ (w .image-length .ensures)
     (sym (t .before .is-due .ensures) ∙ t .if1 .taken) (c .with-overdue .ensures ∙ ap (with-overdue true) (c .before .ended .ensures))
     (e .0) (e .1 .0) (e .1 .1 .0) (e .1 .1 .1) (k .0) (k .1 .0) (k .1 .1 .0)
 
@@ -95,12 +96,12 @@ pass-spec =
     (tie.spec
     Inv-loop
     μ-loop
-    image-length-requires
     loop-holds
     mul-user
     array-copy-out-user
     add-i
     is-due-requires
+    image-length-requires
     cast-back-out
     back-out-requires
     ended-requires

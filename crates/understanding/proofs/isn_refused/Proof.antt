@@ -1,21 +1,10 @@
 -- `isn_refused` meets its contract: each way out names the tests that led there. Assumes nothing.
-use Prim.Native.Nat.{ℕ}
-use mathlib.Core.Path.{_≡_, sym, _∙_}
-use mathlib.Core.Bool.{not}
-use lib.Dec.{leb, ltb}
+use mathlib.Core.Path.{sym, _∙_}
 use borrow.Author.Needs.{needs}
-use borrow.Author.Tests.{not-true, not-false, le-leb, leb-true, leb-false, le-ltb, lt-ltb}
-use Rattle.lists.specs.Tests.{Outcome, holds, fails, outcome, within-below}
+use borrow.Author.Tests.{not-true, not-false, le-leb}
+use Rattle.lists.specs.Tests.{less-is, within-below}
 use Rattle.understanding.proofs.isn_refused.Statement.{statement}
 use Rattle.understanding.proofs.isn_refused.Tie as tie
-
--- above the highest is not at most the highest
-above : (most isn : ℕ) → ltb most isn ≡ not (leb isn most)
-above most isn = go (outcome (leb isn most))
-  where
-    go : Outcome (leb isn most) → ltb most isn ≡ not (leb isn most)
-    go (holds t) = rw t (le-ltb most isn (leb-true isn most t))
-    go (fails t) = rw t (lt-ltb most isn (leb-false isn most t))
 
 seeks-requires : tie.Need-seeks-requires
 seeks-requires c κs = search needs
@@ -48,7 +37,7 @@ returns-4 c =
     let given = sym (o .before .before .before .seeks .ensures) ∙ o .before .before .if1 .left in
     let yes = sym (o .before .at-given-isn .ensures) ∙ not-false _ (o .if2 .left) in
     let a = o .before .before .before .before .args in
-    rw (given, yes, le-leb 1 (a .call .isn) (c .before .if3 .left)) (above (a .max-isn) (a .call .isn))
+    rw (given, yes, le-leb 1 (a .call .isn) (c .before .if3 .left)) (less-is (a .max-isn) (a .call .isn))
 
 pub isn-refused-spec : {M : Type 1} → statement M
 isn-refused-spec = tie.close (tie.spec seeks-requires returns at-given-isn-requires returns-2 returns-3 returns-4)

@@ -7,11 +7,10 @@ use lib.Dec.{leb}
 use lib.ListN.{length}
 use borrow.Author.Needs.{needs}
 use borrow.Author.Tests.{lt-ltb, le-ltb}
-use Rattle.lists.specs.Tests.{within-inside, within-below, within-above}
+use Rattle.lists.specs.Tests.{within-inside, within-below, within-above, less-is}
 use Rattle.layout.specs.Layout.{image-length}
 use Rattle.nucleus.specs.Nucleus.{max-capacity}
 use Rattle.nucleus.specs.WellMade.{too-short}
-use Rattle.usability.specs.Laws.{less-is}
 use Rattle.usability.proofs.too_short.Statement.{statement}
 use Rattle.usability.proofs.too_short.Tie as tie
 

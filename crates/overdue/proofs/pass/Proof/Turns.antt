@@ -17,7 +17,8 @@ use Rattle.nucleus.specs.Clock.{timed-out-from}
 use Rattle.nucleus.specs.declared.EtData.{EtData}
 use Rattle.nucleus.specs.declared.User.{User}
 use Rattle.overdue.specs.Parts.{parts}
-use Rattle.overdue.specs.Laws.{read-within, out-when-due, kept-when-not, next-user}
+use Rattle.lists.specs.Rest.{read-within}
+use Rattle.overdue.specs.Laws.{out-when-due, kept-when-not, next-user}
 
 -- the users after the first i, out of what there is now, and all, out of what there was: the same comes of both
 pub record Pending (d : Definition) (clock : ℕ) (store₀ queue₀ images₀ : List ℕ) (people₀ : List User) (left₀ : ℕ) (store queue images : List ℕ) (people : List User) (left i : ℕ) : Type 0 where
