@@ -6,10 +6,10 @@ ghost use Prim.Native.Nat.{_≤_};
 ghost use lib.ListN.{length};
 ghost use Rattle.records.specs.Records.{record-length};
 ghost use Rattle.fields.specs.Fields.{write-fields};
-ghost use Rattle.store.specs.Store.{has-record, record-of};
+ghost use Rattle.store.specs.Store.{has-record};
 ghost use Rattle.nucleus.specs.Rows.{first-cause};
 ghost use Rattle.shares.specs.Shares.{verdict};
-ghost use Rattle.shares.specs.Chains.{held-share, imaged-queue, imaged-images, replaced, taken, a1-cause, e1-cause};
+ghost use Rattle.shares.specs.Chains.{replaced, taken, a1-cause, e1-cause};
 ghost use Rattle.shares.specs.Outcomes.{put-part, erased-part, changed-done, changed-queue, changed-images};
 ghost use Rattle.changing.specs.Changing.{rows-changed, rows-amended};
 use definition::File;
@@ -43,38 +43,6 @@ fn changeable(call: Call, most: usize, share: Share, f: File, part: &[u8], queue
     Verdict::Passed
 }
 
-// Holds the call's ISN, and keeps the record there as the image of its entry at the entry's first change.
-fn keep(
-    call: Call,
-    width: usize,
-    clock: u32,
-    share: Share,
-    f: File,
-    part: &[u8],
-    queue: &mut [u64],
-    images: &mut [u8],
-) -> Share
-    requires { ⌜ has-record f (now part) (call .isn) ≡ true ⌝ }
-    ensures { λ r. ⌜ r ≡ held-share call share (now (queue .entry)) clock (call .isn) ⌝ }
-    ensures { λ _. ⌜ now (queue .exit) ≡ imaged-queue call share (now (queue .entry)) clock (call .isn) (has-record f (now (part .entry)) (call .isn)) ⌝ }
-    ensures { λ _. ⌜ now (images .exit) ≡ imaged-images call share (now (queue .entry)) clock (call .isn) (has-record f (now (part .entry)) (call .isn)) width (record-of f (now (part .entry)) (call .isn)) (now (images .entry)) ⌝ }
-{
-    // What is required.
-    let existed = true;
-    let old = store::record_part(f, part, call.isn);
-    holding::keep(
-        call,
-        clock,
-        share,
-        queue,
-        images,
-        width,
-        call.isn,
-        existed,
-        old,
-    )
-}
-
 // E1 empties the ISN.
 pub fn e1(
     call: Call,
@@ -96,7 +64,7 @@ pub fn e1(
     if let Verdict::Refused(cause) = verdict {
         return shares::refused(cause, share);
     }
-    let held = keep(call, width, clock, share, f, part, queue, images);
+    let held = keeping::keep_record(call, width, clock, share, f, part, queue, images, call.isn);
     store::empty(f, part, call.isn);
     shares::good(call.isn, 0, 0, held)
 }
@@ -240,7 +208,7 @@ pub fn a1(
     if let Verdict::Refused(cause) = verdict {
         return shares::refused(cause, share);
     }
-    let held = keep(call, width, clock, share, f, part, queue, images);
+    let held = keeping::keep_record(call, width, clock, share, f, part, queue, images, call.isn);
     amendment::amend(f, part, call.isn, format, buffer);
     shares::good(call.isn, 0, 0, held)
 }

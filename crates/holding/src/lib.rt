@@ -10,7 +10,7 @@ ghost use Rattle.nucleus.specs.Target.{is-holder, other-holds};
 ghost use Rattle.nucleus.specs.Rows.{first-cause};
 ghost use Rattle.shares.specs.Shares.{verdict};
 ghost use Rattle.shares.specs.Outcomes.{hi-done, hi-queue};
-ghost use Rattle.shares.specs.Chains.{rows-room, held-share, held-queue, imaged-queue, imaged-images};
+ghost use Rattle.shares.specs.Chains.{rows-room, held-share, held-queue};
 use definition::File;
 use entries::Entry;
 use nucleus::Call;
@@ -116,31 +116,6 @@ pub fn hold(
     share.user = user;
     share.count = count;
     share
-}
-
-// Holds an ISN, and keeps the record there as the image of its entry at the entry's first change.
-pub fn keep(
-    call: Call,
-    clock: u32,
-    share: Share,
-    queue: &mut [u64],
-    images: &mut [u8],
-    width: usize,
-    isn: u16,
-    existed: bool,
-    content: &[u8],
-) -> Share
-    ensures { λ r. ⌜ r ≡ held-share call share (now (queue .entry)) clock isn ⌝ }
-    ensures { λ _. ⌜ now (queue .exit) ≡ imaged-queue call share (now (queue .entry)) clock isn existed ⌝ }
-    ensures { λ _. ⌜ now (images .exit) ≡ imaged-images call share (now (queue .entry)) clock isn existed width (now (content .entry)) (now (images .entry)) ⌝ }
-{
-    let held = hold(call, clock, share, queue, isn, existed);
-    let found = queue::holder(queue, held.count, call.file, isn);
-    let Lookup::Held(at, _) = found else {
-        return held;
-    };
-    changes::first_change(queue, images, width, at, existed, content);
-    held
 }
 
 // HI.
