@@ -10,8 +10,8 @@ use Rattle.nucleus.specs.Rows.{first-cause}
 use Rattle.nucleus.specs.declared.Response.{Response}
 use Rattle.shares.specs.Causes.{verdict-refused, verdict-passed}
 use Rattle.shares.specs.Chains.{replaced, a1-cause}
-use Rattle.changing.specs.Changing.{rows-amended}
-use Rattle.changing.specs.Laws.{a1-cause-is, amend-there}
+use Rattle.change_rows.specs.ChangeRows.{rows-amended}
+use Rattle.change_rows.specs.Laws.{a1-cause-is, amend-there}
 use Rattle.changing.proofs.a1.Statement.{statement}
 use Rattle.changing.proofs.a1.Tie as tie
 

@@ -7,8 +7,8 @@ use Rattle.nucleus.specs.Rows.{first-cause}
 use Rattle.nucleus.specs.declared.Response.{Response}
 use Rattle.shares.specs.Causes.{verdict-refused, verdict-passed}
 use Rattle.shares.specs.Chains.{e1-cause}
-use Rattle.changing.specs.Changing.{rows-changed}
-use Rattle.changing.specs.Laws.{e1-cause-is}
+use Rattle.change_rows.specs.ChangeRows.{rows-changed}
+use Rattle.change_rows.specs.Laws.{e1-cause-is}
 use Rattle.changing.proofs.e1.Statement.{statement}
 use Rattle.changing.proofs.e1.Tie as tie
 

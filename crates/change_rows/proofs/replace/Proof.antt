@@ -3,8 +3,8 @@
 use mathlib.Core.Path.{sym}
 use borrow.Author.Needs.{needs}
 use Rattle.slices.specs.Laws.{copied-whole}
-use Rattle.changing.proofs.replace.Statement.{statement}
-use Rattle.changing.proofs.replace.Tie as tie
+use Rattle.change_rows.proofs.replace.Statement.{statement}
+use Rattle.change_rows.proofs.replace.Tie as tie
 
 copy-requires : tie.Need-copy-requires
 copy-requires c κs = search needs

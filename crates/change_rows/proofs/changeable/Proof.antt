@@ -12,8 +12,8 @@ use Rattle.queue.specs.declared.Lookup.{Lookup}
 use Rattle.queue.specs.declared.Lookup.the-variants.{Held}
 use Rattle.nucleus.specs.Target.{is-holder, other-holds}
 use Rattle.shares.specs.Chains.{holder-at}
-use Rattle.changing.proofs.changeable.Statement.{statement}
-use Rattle.changing.proofs.changeable.Tie as tie
+use Rattle.change_rows.proofs.changeable.Statement.{statement}
+use Rattle.change_rows.proofs.changeable.Tie as tie
 
 abbrev entry : tie.After-holder → tie.Start
 entry c = c .before .before .before

@@ -13,7 +13,7 @@ use Rattle.nucleus.specs.declared.Call.{Call}
 use Rattle.shares.specs.Laws.{row-passed, last-passed}
 use Rattle.shares.specs.Chains.{row-scratch, rows-brought, row-other, row-there, row-held, rows-room, a1-cause, e1-cause}
 use Rattle.shares.specs.declared.Share.{Share}
-use Rattle.changing.specs.Changing.{rows-changed, row-taken, rows-amended}
+use Rattle.change_rows.specs.ChangeRows.{rows-changed, row-taken, rows-amended}
 
 module _ (f : File) (part : List ℕ) (call : Call) (x : Share) (queue : List ℕ) (room : ℕ) where
   pub e1-cause-is : e1-cause call x queue f part room ≡ first-cause (rows-changed f part call x queue room)

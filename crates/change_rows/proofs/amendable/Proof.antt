@@ -15,10 +15,10 @@ use Rattle.shares.specs.Causes.{causes-refused, causes-passed, verdict-refused,
 use Rattle.shares.specs.Laws.{row-passed}
 use Rattle.shares.specs.Chains.{max-scratch, row-scratch, rows-brought}
 use Rattle.shares.specs.declared.Share.{Share}
-use Rattle.changing.specs.Changing.{rows-changed, row-taken, rows-amended}
-use Rattle.changing.specs.Laws.{change-there}
-use Rattle.changing.proofs.amendable.Statement.{statement}
-use Rattle.changing.proofs.amendable.Tie as tie
+use Rattle.change_rows.specs.ChangeRows.{rows-changed, row-taken, rows-amended}
+use Rattle.change_rows.specs.Laws.{change-there}
+use Rattle.change_rows.proofs.amendable.Statement.{statement}
+use Rattle.change_rows.proofs.amendable.Tie as tie
 
 -- A1's cause past the rows of a record that is to be made, and past those of a change
 module _ (f : File) (part : List ℕ) (call : Call) (x : Share) (queue : List ℕ) (room : ℕ) (images : List ℕ) (width : ℕ) (format buffer : List ℕ) where

@@ -10,8 +10,8 @@ use lib.Seq.{length-take-le, take-at}
 use borrow.Author.Needs.{needs}
 use Rattle.store.specs.Laws.{shown-record, shown-length}
 use Rattle.shares.specs.Chains.{replaced}
-use Rattle.changing.proofs.taken_in.Statement.{statement}
-use Rattle.changing.proofs.taken_in.Tie as tie
+use Rattle.change_rows.proofs.taken_in.Statement.{statement}
+use Rattle.change_rows.proofs.taken_in.Tie as tie
 
 abbrev entry : tie.After-record-part → tie.Start
 entry c = c .before .before .before .before .before .before .before
