@@ -41,7 +41,7 @@ fn add_at(
     ensures { λ _. ⌜ now (queue .exit) ≡ changed-queue (last-cause f (now (part .entry)) call share (now (queue .entry)) (now (images .entry)) width most (now (format .entry)) (now (buffer .entry)) isn) f (now (part .entry)) isn call share (now (queue .entry)) clock ⌝ }
     ensures { λ _. ⌜ now (images .exit) ≡ changed-images (last-cause f (now (part .entry)) call share (now (queue .entry)) (now (images .entry)) width most (now (format .entry)) (now (buffer .entry)) isn) f (now (part .entry)) isn call share (now (queue .entry)) clock width (now (images .entry)) ⌝ }
 {
-    let room = holding::room(call, share, queue, most, isn);
+    let room = hold_rows::room(call, share, queue, most, isn);
     if let Verdict::Refused(cause) = room {
         return shares::refused(cause, share);
     }
@@ -137,7 +137,7 @@ pub fn n2(
         return shares::refused(cause, share);
     }
     let found = queue::holder(queue, share.count, call.file, call.isn);
-    if holding::other_holds(found, call.user) {
+    if hold_rows::other_holds(found, call.user) {
         return shares::refused(Response::HeldByAnother, share);
     }
     if store::has_record(f, part, call.isn) {

@@ -32,14 +32,14 @@ pub fn changeable(
     ensures { λ r. ⌜ r ≡ verdict (first-cause (rows-changed f (now (part .entry)) call share (now (queue .entry)) most)) ⌝ }
 {
     let found = queue::holder(queue, share.count, call.file, call.isn);
-    if holding::other_holds(found, call.user) {
+    if hold_rows::other_holds(found, call.user) {
         return Verdict::Refused(Response::HeldByAnother);
     }
     if !store::has_record(f, part, call.isn) {
         return Verdict::Refused(Response::Presence);
     }
     if call.option == TAKE_HOLD {
-        return holding::room(call, share, queue, most, call.isn);
+        return hold_rows::room(call, share, queue, most, call.isn);
     }
     // Past 145 an entry is the caller's, and then there is no new one.
     let Lookup::Held(_, _) = found else {

@@ -3,8 +3,8 @@
 use borrow.Author.Tests.{le-leb, lt-leb}
 use borrow.Author.Needs.{needs}
 use Rattle.shares.specs.Chains.{is-new}
-use Rattle.holding.proofs.room.Statement.{statement}
-use Rattle.holding.proofs.room.Tie as tie
+use Rattle.hold_rows.proofs.room.Statement.{statement}
+use Rattle.hold_rows.proofs.room.Tie as tie
 
 held-by-caller-requires : tie.Need-held-by-caller-requires
 held-by-caller-requires c κs = search needs

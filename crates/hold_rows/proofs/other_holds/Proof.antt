@@ -1,7 +1,7 @@
 -- `other_holds` meets its contract. Assumes nothing.
 use borrow.Author.Needs.{needs}
-use Rattle.holding.proofs.other_holds.Statement.{statement}
-use Rattle.holding.proofs.other_holds.Tie as tie
+use Rattle.hold_rows.proofs.other_holds.Statement.{statement}
+use Rattle.hold_rows.proofs.other_holds.Tie as tie
 
 enum-known-found : tie.Need-enum-known-found
 enum-known-found c = search needs

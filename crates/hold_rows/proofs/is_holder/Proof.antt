@@ -1,7 +1,7 @@
 -- `is_holder` meets its contract. Assumes nothing.
 use borrow.Author.Needs.{needs}
-use Rattle.holding.proofs.is_holder.Statement.{statement}
-use Rattle.holding.proofs.is_holder.Tie as tie
+use Rattle.hold_rows.proofs.is_holder.Statement.{statement}
+use Rattle.hold_rows.proofs.is_holder.Tie as tie
 
 enum-known-found : tie.Need-enum-known-found
 enum-known-found c = search needs

@@ -2,8 +2,8 @@
 use mathlib.Core.Path.{ap, _∙_}
 use Rattle.nucleus.specs.Target.{is-holder}
 use borrow.Author.Needs.{needs}
-use Rattle.holding.proofs.held_by_caller.Statement.{statement}
-use Rattle.holding.proofs.held_by_caller.Tie as tie
+use Rattle.hold_rows.proofs.held_by_caller.Statement.{statement}
+use Rattle.hold_rows.proofs.held_by_caller.Tie as tie
 
 holder-requires : tie.Need-holder-requires
 holder-requires c κs = search needs
