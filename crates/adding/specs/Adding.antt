@@ -1,15 +1,9 @@
--- What N1 and N2 are judged by, over numbers and slices: where N1 looks for an ISN, and the rows that both begin and end with.
+-- The rows of N1 and N2 in groups: those that both begin and end with.
 use Prim.Native.Nat.{ℕ}
-use mathlib.Core.Bool.{Bool, false, not, _&&_}
+use mathlib.Core.Bool.{false}
 use mathlib.Core.List.{List, [], _∷_, _++_}
 use mathlib.Core.Option.{Option}
-use lib.Dec.{eqb, leb}
-use lib.ListN.{getD}
-use Rattle.lists.specs.Folds.{any}
 use Rattle.definition.specs.declared.File.{File}
-use Rattle.store.specs.Store.{recorded}
-use Rattle.entries.specs.Entries.{is-of}
-use Rattle.entries.specs.declared.Entry.{Entry}
 use Rattle.nucleus.specs.Rows.{Row, row, first-cause}
 use Rattle.nucleus.specs.declared.Call.{Call}
 use Rattle.nucleus.specs.declared.Response.{Response}
@@ -17,16 +11,6 @@ use Rattle.nucleus.specs.declared.Response.the-variants.{ValueTaken}
 use Rattle.shares.specs.Chains.{row-scratch, rows-brought, rows-room, added, taken}
 use Rattle.shares.specs.declared.Share.{Share}
 
--- ---- a free ISN of a row of slots
--- whether the slot that begins at a place, if it is one of those up to the last whole one, has a record
-abbrev pub recorded-at : ℕ → List ℕ → ℕ → ℕ → Bool
-recorded-at slots part at isn = leb isn slots && eqb (getD part at 0) 1
-
--- no record there, and nobody holds the ISN
-abbrev pub free-at : ℕ → ℕ → List ℕ → ℕ → List Entry → ℕ → Bool
-free-at slots size part file held isn = not (recorded slots size part isn) && not (any (is-of file isn) held)
-
--- ---- the rows of N1 and N2
 -- those that both begin with: the file's and the buffers'
 abbrev pub rows-beginning : File → List ℕ → List ℕ → List Row
 rows-beginning f format buffer = row-scratch f ∷ rows-brought f format buffer

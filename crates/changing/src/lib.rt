@@ -1,79 +1,13 @@
 // A1 replaces the named fields of a record, E1 empties its ISN (document 01). "Both need the user's hold; option `H` takes it." Before the first
 // change of an entry the record is kept as its image.
 ghost use mathlib.Core.Path.{_≡_};
-ghost use mathlib.Core.Bool.{true};
-ghost use Prim.Native.Nat.{_≤_};
-ghost use lib.ListN.{length};
-ghost use Rattle.records.specs.Records.{record-length};
-ghost use Rattle.fields.specs.Fields.{write-fields};
-ghost use Rattle.store.specs.Store.{has-record, record-of};
-ghost use Rattle.nucleus.specs.Rows.{first-cause};
-ghost use Rattle.shares.specs.Shares.{verdict};
-ghost use Rattle.shares.specs.Chains.{held-share, imaged-queue, imaged-images, replaced, taken, a1-cause, e1-cause};
+ghost use Rattle.shares.specs.Chains.{replaced, a1-cause, e1-cause};
 ghost use Rattle.shares.specs.Outcomes.{put-part, erased-part, changed-done, changed-queue, changed-images};
-ghost use Rattle.changing.specs.Changing.{rows-changed, rows-amended};
 use definition::File;
-use definition::MAX_RECORD_LENGTH;
 use nucleus::Call;
-use nucleus::Response;
-use nucleus::TAKE_HOLD;
-use queue::Lookup;
 use shares::Done;
 use shares::Share;
 use shares::Verdict;
-
-// The rows of a change at the call's ISN: 145, 113, 144, 47 and 70.
-fn changeable(call: Call, most: usize, share: Share, f: File, part: &[u8], queue: &[u64]) -> Verdict
-    ensures { λ r. ⌜ r ≡ verdict (first-cause (rows-changed f (now (part .entry)) call share (now (queue .entry)) most)) ⌝ }
-{
-    let found = queue::holder(queue, share.count, call.file, call.isn);
-    if holding::other_holds(found, call.user) {
-        return Verdict::Refused(Response::HeldByAnother);
-    }
-    if !store::has_record(f, part, call.isn) {
-        return Verdict::Refused(Response::Presence);
-    }
-    if call.option == TAKE_HOLD {
-        return holding::room(call, share, queue, most, call.isn);
-    }
-    // Past 145 an entry is the caller's, and then there is no new one.
-    let Lookup::Held(_, _) = found else {
-        return Verdict::Refused(Response::NotHeld);
-    };
-    Verdict::Passed
-}
-
-// Holds the call's ISN, and keeps the record there as the image of its entry at the entry's first change.
-fn keep(
-    call: Call,
-    width: usize,
-    clock: u32,
-    share: Share,
-    f: File,
-    part: &[u8],
-    queue: &mut [u64],
-    images: &mut [u8],
-) -> Share
-    requires { ⌜ has-record f (now part) (call .isn) ≡ true ⌝ }
-    ensures { λ r. ⌜ r ≡ held-share call share (now (queue .entry)) clock (call .isn) ⌝ }
-    ensures { λ _. ⌜ now (queue .exit) ≡ imaged-queue call share (now (queue .entry)) clock (call .isn) (has-record f (now (part .entry)) (call .isn)) ⌝ }
-    ensures { λ _. ⌜ now (images .exit) ≡ imaged-images call share (now (queue .entry)) clock (call .isn) (has-record f (now (part .entry)) (call .isn)) width (record-of f (now (part .entry)) (call .isn)) (now (images .entry)) ⌝ }
-{
-    // What is required.
-    let existed = true;
-    let old = store::record_part(f, part, call.isn);
-    holding::keep(
-        call,
-        clock,
-        share,
-        queue,
-        images,
-        width,
-        call.isn,
-        existed,
-        old,
-    )
-}
 
 // E1 empties the ISN.
 pub fn e1(
@@ -92,118 +26,13 @@ pub fn e1(
     ensures { λ _. ⌜ now (queue .exit) ≡ changed-queue (e1-cause call share (now (queue .entry)) f (now (part .entry)) most) f (now (part .entry)) (call .isn) call share (now (queue .entry)) clock ⌝ }
     ensures { λ _. ⌜ now (images .exit) ≡ changed-images (e1-cause call share (now (queue .entry)) f (now (part .entry)) most) f (now (part .entry)) (call .isn) call share (now (queue .entry)) clock width (now (images .entry)) ⌝ }
 {
-    let verdict = changeable(call, most, share, f, part, queue);
+    let verdict = change_rows::changeable(call, most, share, f, part, queue);
     if let Verdict::Refused(cause) = verdict {
         return shares::refused(cause, share);
     }
-    let held = keep(call, width, clock, share, f, part, queue, images);
+    let held = keeping::keep_record(call, width, clock, share, f, part, queue, images, call.isn);
     store::empty(f, part, call.isn);
     shares::good(call.isn, 0, 0, held)
-}
-
-// Makes a record over a copy of the old one, with the named fields replaced.
-fn replace(f: File, old: &[u8], format: &[u8], buffer: &[u8], content: &mut [u8])
-    requires { ⌜ length (now content) ≡ length (now old) ⌝ }
-    ensures { λ _. ⌜ now (content .exit) ≡ write-fields f (now (format .entry)) (now (buffer .entry)) (now (old .entry)) ⌝ }
-{
-    slices::copy(old, content);
-    fields::write_fields(f, format, buffer, content);
-}
-
-// Whether a unique value of the record that A1 makes, in stored form at the front of `scratch`, is taken.
-fn taken_in(
-    call: Call,
-    width: usize,
-    share: Share,
-    f: File,
-    part: &[u8],
-    queue: &[u64],
-    images: &[u8],
-    format: &[u8],
-    buffer: &[u8],
-    scratch: &mut [u8],
-) -> bool
-    requires { ⌜ record-length f ≤ length (now scratch) ⌝ }
-    requires { ⌜ has-record f (now part) (call .isn) ≡ true ⌝ }
-    ensures { λ r. ⌜ r ≡ taken f (now (part .entry)) call share (now (queue .entry)) (now (images .entry)) width true (now (format .entry)) (call .isn) (replaced f (now (part .entry)) (now (format .entry)) (now (buffer .entry)) (call .isn)) ⌝ }
-{
-    let old = store::record_part(f, part, call.isn);
-    let n = old.len();
-    replace(f, old, format, buffer, &mut scratch[..n]);
-    let content = &scratch[..n];
-    uniqueness::taken(
-        call,
-        share,
-        queue,
-        images,
-        width,
-        f,
-        part,
-        true,
-        format,
-        call.isn,
-        content,
-    )
-}
-
-// 198, judged on the record before it is in the store.
-fn value_taken(
-    call: Call,
-    width: usize,
-    share: Share,
-    f: File,
-    part: &[u8],
-    queue: &[u64],
-    images: &[u8],
-    format: &[u8],
-    buffer: &[u8],
-) -> bool
-    requires { ⌜ record-length f ≤ 512 ⌝ }
-    requires { ⌜ has-record f (now part) (call .isn) ≡ true ⌝ }
-    ensures { λ r. ⌜ r ≡ taken f (now (part .entry)) call share (now (queue .entry)) (now (images .entry)) width true (now (format .entry)) (call .isn) (replaced f (now (part .entry)) (now (format .entry)) (now (buffer .entry)) (call .isn)) ⌝ }
-{
-    let mut scratch = [0u8; MAX_RECORD_LENGTH];
-    taken_in(
-        call,
-        width,
-        share,
-        f,
-        part,
-        queue,
-        images,
-        format,
-        buffer,
-        &mut scratch,
-    )
-}
-
-// A1's rows: those of a record that is to be made, those of a change, and 198.
-fn amendable(
-    call: Call,
-    most: usize,
-    width: usize,
-    share: Share,
-    f: File,
-    part: &[u8],
-    queue: &[u64],
-    images: &[u8],
-    format: &[u8],
-    buffer: &[u8],
-) -> Verdict
-    ensures { λ r. ⌜ r ≡ verdict (first-cause (rows-amended f (now (part .entry)) call share (now (queue .entry)) most (now (images .entry)) width (now (format .entry)) (now (buffer .entry)))) ⌝ }
-{
-    let storable = formats::storable(f, format, buffer);
-    if let Verdict::Refused(cause) = storable {
-        return Verdict::Refused(cause);
-    }
-    let allowed = changeable(call, most, share, f, part, queue);
-    if let Verdict::Refused(cause) = allowed {
-        return Verdict::Refused(cause);
-    }
-    if value_taken(call, width, share, f, part, queue, images, format, buffer) {
-        return Verdict::Refused(Response::ValueTaken);
-    }
-    Verdict::Passed
 }
 
 // A1 replaces the named fields.
@@ -225,7 +54,7 @@ pub fn a1(
     ensures { λ _. ⌜ now (queue .exit) ≡ changed-queue (a1-cause f (now (part .entry)) call share (now (queue .entry)) (now (images .entry)) width most (now (format .entry)) (now (buffer .entry))) f (now (part .entry)) (call .isn) call share (now (queue .entry)) clock ⌝ }
     ensures { λ _. ⌜ now (images .exit) ≡ changed-images (a1-cause f (now (part .entry)) call share (now (queue .entry)) (now (images .entry)) width most (now (format .entry)) (now (buffer .entry))) f (now (part .entry)) (call .isn) call share (now (queue .entry)) clock width (now (images .entry)) ⌝ }
 {
-    let verdict = amendable(
+    let verdict = change_rows::amendable(
         call,
         most,
         width,
@@ -240,7 +69,7 @@ pub fn a1(
     if let Verdict::Refused(cause) = verdict {
         return shares::refused(cause, share);
     }
-    let held = keep(call, width, clock, share, f, part, queue, images);
+    let held = keeping::keep_record(call, width, clock, share, f, part, queue, images, call.isn);
     amendment::amend(f, part, call.isn, format, buffer);
     shares::good(call.isn, 0, 0, held)
 }

@@ -1,70 +1,20 @@
-// Holding in three pieces: who holds (145), is there room (47, 70), hold (the entry and the transaction's start).
+// Hold: the entry and the transaction's start; HI (document 01).
 ghost use Prim.Native.Nat.{_+_};
 ghost use mathlib.Core.Path.{_≡_};
 ghost use lib.Dec.{ltb};
 ghost use Rattle.lists.specs.Tests.{cond};
-ghost use Rattle.entries.specs.Entries.{entries};
-ghost use Rattle.queue.specs.Queue.{holder};
 ghost use Rattle.nucleus.specs.Users.{started};
-ghost use Rattle.nucleus.specs.Target.{is-holder, other-holds};
-ghost use Rattle.nucleus.specs.Rows.{first-cause};
-ghost use Rattle.shares.specs.Shares.{verdict};
 ghost use Rattle.shares.specs.Outcomes.{hi-done, hi-queue};
-ghost use Rattle.shares.specs.Chains.{rows-room, held-share, held-queue, imaged-queue, imaged-images};
+ghost use Rattle.shares.specs.Chains.{held-share, held-queue};
 use definition::File;
 use entries::Entry;
 use nucleus::Call;
 use nucleus::Response;
 use nucleus::Transaction;
 use nucleus::User;
-use queue::Lookup;
 use shares::Done;
 use shares::Share;
 use shares::Verdict;
-
-// Whether the entry that a lookup found is another user's.
-pub fn other_holds(found: Lookup, user: u8) -> bool
-    ensures { λ r. ⌜ r ≡ other-holds user found ⌝ }
-{
-    match found {
-        Lookup::Held(_, entry) => entry.user != user,
-        Lookup::Free => false,
-    }
-}
-
-// Whether it is the user's.
-pub fn is_holder(found: Lookup, user: u8) -> bool
-    ensures { λ r. ⌜ r ≡ is-holder user found ⌝ }
-{
-    match found {
-        Lookup::Held(_, entry) => entry.user == user,
-        Lookup::Free => false,
-    }
-}
-
-// Whether the caller has an entry of the ISN.
-fn held_by_caller(call: Call, queue: &[u64], count: usize, isn: u16) -> bool
-    ensures { λ r. ⌜ r ≡ is-holder (call .user) (holder (entries (now (queue .entry)) count) (call .file) isn) ⌝ }
-{
-    let found = queue::holder(queue, count, call.file, isn);
-    is_holder(found, call.user)
-}
-
-// The rows of a new entry: the user at or past his hold limit, the queue with `most` entries. Who has an entry already needs none.
-pub fn room(call: Call, share: Share, queue: &[u64], most: usize, isn: u16) -> Verdict
-    ensures { λ r. ⌜ r ≡ verdict (first-cause (rows-room call share (now (queue .entry)) most isn)) ⌝ }
-{
-    if held_by_caller(call, queue, share.count, isn) {
-        return Verdict::Passed;
-    }
-    if share.user.hold_limit as usize <= queue::held_by(queue, share.count, call.user) {
-        return Verdict::Refused(Response::HoldLimit);
-    }
-    if most <= share.count {
-        return Verdict::Refused(Response::QueueFull);
-    }
-    Verdict::Passed
-}
 
 // "A transaction opens at the user's first new hold".
 fn started(mut user: User, clock: u32) -> User
@@ -100,7 +50,7 @@ pub fn hold(
     ensures { λ r. ⌜ r ≡ held-share call share (now (queue .entry)) clock isn ⌝ }
     ensures { λ _. ⌜ now (queue .exit) ≡ held-queue call share (now (queue .entry)) isn existed ⌝ }
 {
-    if held_by_caller(call, queue, share.count, isn) {
+    if hold_rows::held_by_caller(call, queue, share.count, isn) {
         return share;
     }
     let entry = Entry {
@@ -118,31 +68,6 @@ pub fn hold(
     share
 }
 
-// Holds an ISN, and keeps the record there as the image of its entry at the entry's first change.
-pub fn keep(
-    call: Call,
-    clock: u32,
-    share: Share,
-    queue: &mut [u64],
-    images: &mut [u8],
-    width: usize,
-    isn: u16,
-    existed: bool,
-    content: &[u8],
-) -> Share
-    ensures { λ r. ⌜ r ≡ held-share call share (now (queue .entry)) clock isn ⌝ }
-    ensures { λ _. ⌜ now (queue .exit) ≡ imaged-queue call share (now (queue .entry)) clock isn existed ⌝ }
-    ensures { λ _. ⌜ now (images .exit) ≡ imaged-images call share (now (queue .entry)) clock isn existed width (now (content .entry)) (now (images .entry)) ⌝ }
-{
-    let held = hold(call, clock, share, queue, isn, existed);
-    let found = queue::holder(queue, held.count, call.file, isn);
-    let Lookup::Held(at, _) = found else {
-        return held;
-    };
-    changes::first_change(queue, images, width, at, existed, content);
-    held
-}
-
 // HI.
 pub fn hi(
     call: Call,
@@ -157,10 +82,10 @@ pub fn hi(
     ensures { λ _. ⌜ now (queue .exit) ≡ hi-queue call share (now (queue .entry)) most f (now (part .entry)) ⌝ }
 {
     let found = queue::holder(queue, share.count, call.file, call.isn);
-    if other_holds(found, call.user) {
+    if hold_rows::other_holds(found, call.user) {
         return shares::refused(Response::HeldByAnother, share);
     }
-    let verdict = room(call, share, queue, most, call.isn);
+    let verdict = hold_rows::room(call, share, queue, most, call.isn);
     if let Verdict::Refused(cause) = verdict {
         return shares::refused(cause, share);
     }

@@ -93,13 +93,13 @@ fn holdable(
     ensures { λ r. ⌜ r ≡ verdict (first-cause (row-other call share (now (queue .entry)) isn ∷ row-there f (now (part .entry)) isn ∷ rows-room call share (now (queue .entry)) most isn)) ⌝ }
 {
     let found = queue::holder(queue, share.count, call.file, isn);
-    if holding::other_holds(found, call.user) {
+    if hold_rows::other_holds(found, call.user) {
         return Verdict::Refused(Response::HeldByAnother);
     }
     if !store::has_record(f, part, isn) {
         return Verdict::Refused(Response::Presence);
     }
-    holding::room(call, share, queue, most, isn)
+    hold_rows::room(call, share, queue, most, isn)
 }
 
 // L4 holds the ISN and reads.

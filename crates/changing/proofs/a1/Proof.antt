@@ -10,8 +10,8 @@ use Rattle.nucleus.specs.Rows.{first-cause}
 use Rattle.nucleus.specs.declared.Response.{Response}
 use Rattle.shares.specs.Causes.{verdict-refused, verdict-passed}
 use Rattle.shares.specs.Chains.{replaced, a1-cause}
-use Rattle.changing.specs.Changing.{rows-amended}
-use Rattle.changing.specs.Laws.{a1-cause-is, amend-there}
+use Rattle.change_rows.specs.ChangeRows.{rows-amended}
+use Rattle.change_rows.specs.Laws.{a1-cause-is, amend-there}
 use Rattle.changing.proofs.a1.Statement.{statement}
 use Rattle.changing.proofs.a1.Tie as tie
 
@@ -59,8 +59,8 @@ returns c =
 enum-told : tie.Need-enum-told
 enum-told c = search needs
 
-keep-requires : tie.Need-keep-requires
-keep-requires c κs = there (c .before .before .before)
+keep-record-requires : tie.Need-keep-record-requires
+keep-record-requires c κs = search needs
 
 amend-requires : tie.Need-amend-requires
 amend-requires c κs = search needs
@@ -84,7 +84,7 @@ returns-2 c =
     let k = m .before .before .before .before .before .before in
     let t = k .before .before .before .before in
     let a = entry (t .before .before) .args in
-    rw (cause-is (entry (t .before .before)) ∙ passed t, ← (k .keep .ensures .0)) (c .good2 .ensures, (m .amend .ensures ∙ amended-record (a .f) (a .part .now) (a .call .isn) (a .format .now) (a .buffer .now) (there t), k .keep .ensures .1))
+    rw (cause-is (entry (t .before .before)) ∙ passed t, ← (k .keep-record .ensures .0)) (c .good2 .ensures, (m .amend .ensures ∙ amended-record (a .f) (a .part .now) (a .call .isn) (a .format .now) (a .buffer .now) (there t), k .keep-record .ensures .1))
 
 pub a1-spec : {M : Type 1} → statement M
 a1-spec =
@@ -98,7 +98,7 @@ a1-spec =
     same-length-3
     returns
     enum-told
-    keep-requires
+    keep-record-requires
     amend-requires
     good-requires
     same-length-4

@@ -1,15 +1,14 @@
 -- `e1` meets its contract: past its rows a record is there, which is kept before the ISN is emptied.
 -- Assumes nothing.
 use mathlib.Core.Path.{_≡_, refl, sym, _∙_}
-use mathlib.Core.List.{[]}
 use mathlib.Core.Option.{Option, none}
 use borrow.Author.Needs.{needs}
 use Rattle.nucleus.specs.Rows.{first-cause}
 use Rattle.nucleus.specs.declared.Response.{Response}
 use Rattle.shares.specs.Causes.{verdict-refused, verdict-passed}
 use Rattle.shares.specs.Chains.{e1-cause}
-use Rattle.changing.specs.Changing.{rows-changed}
-use Rattle.changing.specs.Laws.{e1-cause-is, change-there}
+use Rattle.change_rows.specs.ChangeRows.{rows-changed}
+use Rattle.change_rows.specs.Laws.{e1-cause-is}
 use Rattle.changing.proofs.e1.Statement.{statement}
 use Rattle.changing.proofs.e1.Tie as tie
 
@@ -49,11 +48,8 @@ returns c =
 enum-told : tie.Need-enum-told
 enum-told c = search needs
 
-keep-requires : tie.Need-keep-requires
-keep-requires c κs =
-    let t = c .before .before .before in
-    let a = entry (t .before .before) .args in
-    change-there (a .f) (a .part .now) (a .call) (a .share) (a .queue .now) (a .most) [] (passed t)
+keep-record-requires : tie.Need-keep-record-requires
+keep-record-requires c κs = search needs
 
 empty-requires : tie.Need-empty-requires
 empty-requires c κs = search needs
@@ -75,7 +71,7 @@ returns-2 c =
     let e = c .before .before .before in
     let k = e .before .before .before .before .before .before in
     let t = k .before .before .before .before in
-    rw (cause-is (entry (t .before .before)) ∙ passed t, ← (k .keep .ensures .0)) (c .good2 .ensures, (e .empty .ensures, k .keep .ensures .1))
+    rw (cause-is (entry (t .before .before)) ∙ passed t, ← (k .keep-record .ensures .0)) (c .good2 .ensures, (e .empty .ensures, k .keep-record .ensures .1))
 
 pub e1-spec : {M : Type 1} → statement M
 e1-spec =
@@ -88,7 +84,7 @@ e1-spec =
     same-length-2
     returns
     enum-told
-    keep-requires
+    keep-record-requires
     empty-requires
     good-requires
     same-length-3

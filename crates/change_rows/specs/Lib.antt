@@ -1,0 +1,2 @@
+pub mod ChangeRows
+pub mod Laws
