@@ -19,8 +19,8 @@ const CAPACITY: usize = 64;
 
 const IMAGES: usize = 32768;
 
-// A line has at most 84 bytes, and two for each of a record buffer (lines, `line-most`).
-const LINE: usize = 154;
+// A line has at most 84 bytes, and two for each of a record buffer (lines, `line-most`); then comes its end.
+const LINE: usize = 155;
 
 // The state, and how many calls may come still. No list ends by that count, but a loop has to end, and nothing says that the input does.
 struct Turn {
@@ -74,11 +74,23 @@ fn read_table(fd: i32, table: &mut [u8]) -> usize
     0
 }
 
+// The end of a line, written at a place; answers the place behind it, or 0 where there is no room.
+fn put_end(line: &mut [u8], at: usize) -> usize
+    ensures { λ r. ⌜ Within r (now (line .exit)) ⌝ }
+{
+    if at < line.len() {
+        line[at] = b'\n';
+        return at + 1;
+    }
+    0
+}
+
+// A line and its end go out by one call of the system.
 fn print_line(call: Call, answer: Answer, buffer: &[u8]) {
     let mut line = [0u8; LINE];
     let n = lines::line(call, answer, buffer, &mut line);
-    io::write_all(STDOUT_FILENO, &line[..n]);
-    io::write_all(STDOUT_FILENO, b"\n");
+    let end = put_end(&mut line, n);
+    io::write_all(STDOUT_FILENO, &line[..end]);
 }
 
 fn call_and_print(
