@@ -9,8 +9,9 @@ ghost use Rattle.nucleus.specs.Users.{fresh-user, is-active};
 ghost use Rattle.nucleus.specs.Clock.{clocked};
 ghost use Rattle.nucleus.specs.Step.{admitted-user};
 ghost use Rattle.nucleus.specs.declared.EtData.{EtData};
+ghost use Rattle.nucleus.specs.declared.User.{User};
 ghost use Rattle.overdue.specs.Parts.{parts};
-ghost use Rattle.admission.specs.Admission.{admission-of, turned};
+ghost use Rattle.admission.specs.Admission.{admission-of};
 use definition::Definition;
 use nucleus::Call;
 use nucleus::Command;
@@ -99,15 +100,11 @@ fn access_refused(command: Command, user: User) -> bool
     false
 }
 
-fn refused(cause: Response, clock: u32, users: [User; MAX_USERS], count: usize) -> Admitted
-    ensures { λ r. ⌜ r ≡ turned cause clock users count ⌝ }
-{
-    Admitted {
-        verdict: Verdict::Refused(cause),
-        clock,
-        users,
-        count,
-    }
+// What becomes of a caller: whether he is let in, his session and transaction then, and the entries that are left.
+struct Entered {
+    verdict: Verdict,
+    user: User,
+    count: usize,
 }
 
 // 9, the session that opens, and 29, after the clock; whatever else the state keeps.
@@ -115,38 +112,45 @@ fn admit_user(
     command: Command,
     call: Call,
     d: Definition,
-    clock: u32,
-    users: [User; MAX_USERS],
+    user: User,
     count: usize,
     store: &mut [u8],
     queue: &mut [u64],
     images: &mut [u8],
-) -> Admitted
-    ensures { λ r. ⌜ ((kept : List EtData) (assigned : List ℕ)
+) -> Entered
+    ensures { λ r. ⌜ ((clock : ℕ) (users : List User) (kept : List EtData) (assigned : List ℕ) → getD users (call .user - 1) fresh-user ≡ user
         → admitted-user command call (parts d clock users kept assigned count (now (store .entry)) (now (queue .entry)) (now (images .entry)))
-        ≡ admission-of (r .verdict) command (parts d (r .clock) (r .users) kept assigned (r .count) (now (store .exit)) (now (queue .exit)) (now (images .exit)))) ⌝ }
+        ≡ admission-of (r .verdict) command (parts d clock (set users (call .user - 1) (r .user)) kept assigned (r .count) (now (store .exit)) (now (queue .exit)) (now (images .exit)))) ⌝ }
 {
-    let number = call.user;
-    let user = user_at(users, number);
     if user.overdue {
-        let cleared = with_user(users, number, sessions::with_overdue(user, false));
-        return refused(Response::BackedOut, clock, cleared, count);
+        let cleared = sessions::with_overdue(user, false);
+        return Entered {
+            verdict: Verdict::Refused(Response::BackedOut),
+            user: cleared,
+            count,
+        };
     }
     if session_in_transaction(command, user) {
         let width = layout::image_length(d);
-        let left = release::back_out(d, width, number, store, queue, images, count);
-        let out = with_user(users, number, release::ended(user));
-        return refused(Response::BackedOut, clock, out, left);
+        let left = release::back_out(d, width, call.user, store, queue, images, count);
+        let out = release::ended(user);
+        return Entered {
+            verdict: Verdict::Refused(Response::BackedOut),
+            user: out,
+            count: left,
+        };
     }
     let session = sessions::opened(user);
-    let opened = with_user(users, number, session);
     if access_refused(command, session) {
-        return refused(Response::AccessOnly, clock, opened, count);
+        return Entered {
+            verdict: Verdict::Refused(Response::AccessOnly),
+            user: session,
+            count,
+        };
     }
-    Admitted {
+    Entered {
         verdict: Verdict::Passed,
-        clock,
-        users: opened,
+        user: session,
         count,
     }
 }
@@ -176,15 +180,14 @@ pub fn admit(
     let now = latest(clock, call.clock);
     let passed = overdue::pass(d, now, users, count, store, queue, images);
     let people = passed.users;
-    admit_user(
-        command,
-        call,
-        d,
-        now,
-        people,
-        passed.count,
-        store,
-        queue,
-        images,
-    )
+    let user = user_at(people, call.user);
+    let entered = admit_user(command, call, d, user, passed.count, store, queue, images);
+    let after = with_user(people, call.user, entered.user);
+    let verdict = entered.verdict;
+    Admitted {
+        verdict,
+        clock: now,
+        users: after,
+        count: entered.count,
+    }
 }

@@ -94,18 +94,18 @@ pub struct Answer {
 
 // All that is kept for a user's transaction: whether he is in one, and the clock at which it began.
 pub struct Transaction {
-    pub active: bool,
     pub begun: u32,
+    pub active: bool,
 }
 
 // A user's session and transaction. What belongs to an ended session or transaction keeps its last values and decides nothing.
 pub struct User {
-    pub session: bool,
+    pub sequence: u32,
+    pub transaction: Transaction,
     pub hold_limit: u16,
     pub time_limit: u16,
-    pub sequence: u32,
+    pub session: bool,
     pub access_only: bool,
-    pub transaction: Transaction,
     // Backed out by the clock, and not told yet.
     pub overdue: bool,
 }

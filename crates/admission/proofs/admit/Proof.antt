@@ -1,6 +1,6 @@
--- `admit` meets its contract: the clock, and then what follows it.
+-- `admit` meets its contract: the clock, and then the caller.
 -- Assumes nothing.
-use mathlib.Core.Path.{ap, _∙_}
+use mathlib.Core.Path.{sym, ap, _∙_}
 use Rattle.nucleus.specs.Step.{admitted-user}
 use Rattle.overdue.specs.Laws.{clocked-to}
 use borrow.Author.Needs.{needs}
@@ -13,8 +13,14 @@ latest-requires c κs = search needs
 pass-requires : tie.Need-pass-requires
 pass-requires c κs = search needs
 
+user-at-requires : tie.Need-user-at-requires
+user-at-requires c κs = search needs
+
 admit-user-requires : tie.Need-admit-user-requires
 admit-user-requires c κs = search needs
+
+with-user-requires : tie.Need-with-user-requires
+with-user-requires c κs = search needs
 
 same-length : tie.Need-same-length
 same-length c = search needs
@@ -27,14 +33,15 @@ same-length-3 c = search needs
 
 returns : tie.Need-returns
 returns c kept assigned =
-    let u = c .before .before .before .before .before .before in
-    let p = u .before .before .before .before .before .before .before .before .before .before .before in
+    let u = c .before .before .before .before .before .before .before in
+    let p = c .before .before .before .before .before .before .before .before .before .before .before .before .before .before .before .before .before .before .before in
     let l = p .before .before .before .before in
     let a = l .before .before .before .before .args in
-    ap (admitted-user (a .command) (a .call))
+    rw (c .with-user .ensures)
+    (ap (admitted-user (a .command) (a .call))
     (clocked-to (a .d) (a .clock) (a .call .clock) (l .latest .result) (a .users) kept assigned (a .count) (a .store .now) (a .queue .now) (a .images .now) _ (l .latest .ensures)
     (p .pass .ensures kept assigned))
-    ∙ u .admit-user .ensures kept assigned
+    ∙ u .admit-user .ensures (l .latest .result) (p .pass .result .users) kept assigned (sym (u .before .before .before .before .user-at .ensures)))
 
 pub admit-spec : {M : Type 1} → statement M
 admit-spec =
@@ -42,7 +49,9 @@ admit-spec =
     (tie.spec
     latest-requires
     pass-requires
+    user-at-requires
     admit-user-requires
+    with-user-requires
     same-length
     same-length-2
     same-length-3
