@@ -1,6 +1,6 @@
 -- `on_file` meets its contract: each command gives what its definition has, and a command about no file is refused. Assumes nothing.
 use Prim.Native.Nat.{ℕ}
-use mathlib.Core.Path.{_≡_, refl, sym}
+use mathlib.Core.Path.{_≡_, refl, sym, ap, _∙_}
 use mathlib.Core.Bool.{true, false}
 use mathlib.Core.List.{List, [], _∷_}
 use borrow.Author.Needs.{needs}
@@ -15,7 +15,7 @@ use Rattle.nucleus.specs.declared.Response.the-variants.{CommandUnknown}
 use Rattle.shares.specs.Shares.{done}
 use Rattle.shares.specs.declared.Share.{Share}
 use Rattle.codes.proofs.Groups.{in-group}
-use Rattle.file_commands.specs.FileCommands.{left, on-file}
+use Rattle.file_commands.specs.FileCommands.{Left, left, on-file}
 use Rattle.file_commands.proofs.on_file.Statement.{statement}
 use Rattle.file_commands.proofs.on_file.Tie as tie
 
@@ -41,56 +41,65 @@ module _ (call : Call) (most width clock : ℕ) (x : Share) (f : File) (part que
   none-of-file Op h = refl
   none-of-file Cl h = refl
 
+-- what a command left, where the command is told
+abbrev on : tie.Start → Command → Left
+on s c =
+    on-file (s .args .call) (s .args .most) (s .args .width) (s .args .clock) (s .args .share) (s .args .f) (s .args .part .now) (s .args .queue .now) (s .args .images .now) (s .args .format .now) (s .args .buffer .now)
+    c
+
+as-told : (s : tie.Start) (c : Command) (l : Left) → l ≡ on s c → s .args .command ≡ c → l ≡ on s (s .args .command)
+as-told s c l e told = e ∙ sym (ap (on s) told)
+
 enum-told : tie.Need-enum-told
 enum-told c = search needs
 
 hi-requires : tie.Need-hi-requires
-hi-requires c κs = search needs
+hi-requires c κs = tt
 
 enum-told-2 : tie.Need-enum-told-2
 enum-told-2 c = search needs
 
 ri-requires : tie.Need-ri-requires
-ri-requires c κs = search needs
+ri-requires c κs = tt
 
 enum-told-3 : tie.Need-enum-told-3
 enum-told-3 c = search needs
 
 l1-requires : tie.Need-l1-requires
-l1-requires c κs = search needs
+l1-requires c κs = tt
 
 enum-told-4 : tie.Need-enum-told-4
 enum-told-4 c = search needs
 
 l4-requires : tie.Need-l4-requires
-l4-requires c κs = search needs
+l4-requires c κs = tt
 
 enum-told-5 : tie.Need-enum-told-5
 enum-told-5 c = search needs
 
 a1-requires : tie.Need-a1-requires
-a1-requires c κs = search needs
+a1-requires c κs = tt
 
 enum-told-6 : tie.Need-enum-told-6
 enum-told-6 c = search needs
 
 e1-requires : tie.Need-e1-requires
-e1-requires c κs = search needs
+e1-requires c κs = tt
 
 enum-told-7 : tie.Need-enum-told-7
 enum-told-7 c = search needs
 
 n1-requires : tie.Need-n1-requires
-n1-requires c κs = search needs
+n1-requires c κs = tt
 
 enum-told-8 : tie.Need-enum-told-8
 enum-told-8 c = search needs
 
 n2-requires : tie.Need-n2-requires
-n2-requires c κs = search needs
+n2-requires c κs = tt
 
 refused-requires : tie.Need-refused-requires
-refused-requires c κs = search needs
+refused-requires c κs = tt
 
 same-length : tie.Need-same-length
 same-length c = search needs
@@ -100,7 +109,10 @@ same-length-2 c = search needs
 
 returns : tie.Need-returns
 unfolding on-file
-returns c = rw (c .before .before .before .before .before .enum-told .given .1, c .before .before .hi .ensures .0, c .before .before .hi .ensures .1)
+returns c =
+    let s = c .before .before .before .before .before .before .before .before .before .before .before .before in
+    let e = c .before .before .hi .ensures in
+    as-told s Hi _ (λ i. left (e .0 i) (s .args .part .now) (e .1 i) (s .args .images .now) (s .args .buffer .now)) (c .before .before .before .before .before .enum-told .given .1)
 
 same-length-3 : tie.Need-same-length-3
 same-length-3 c = search needs
@@ -110,7 +122,10 @@ same-length-4 c = search needs
 
 returns-2 : tie.Need-returns-2
 unfolding on-file
-returns-2 c = rw (c .before .before .before .before .before .before .before .enum-told2 .given .1, c .before .before .before .before .ri .ensures .0, c .before .before .before .before .ri .ensures .1 .0, c .before .before .before .before .ri .ensures .1 .1)
+returns-2 c =
+    let s = c .before .before .before .before .before .before .before .before .before .before .before .before .before .before in
+    let e = c .before .before .before .before .ri .ensures in
+    as-told s Ri _ (λ i. left (e .0 i) (s .args .part .now) (e .1 .0 i) (e .1 .1 i) (s .args .buffer .now)) (c .before .before .before .before .before .before .before .enum-told2 .given .1)
 
 same-length-5 : tie.Need-same-length-5
 same-length-5 c = search needs
@@ -120,7 +135,10 @@ same-length-6 c = search needs
 
 returns-3 : tie.Need-returns-3
 unfolding on-file
-returns-3 c = rw (c .before .before .before .before .before .enum-told3 .given .1, c .before .before .l1 .ensures .0, c .before .before .l1 .ensures .1)
+returns-3 c =
+    let s = c .before .before .before .before .before .before .before .before .before .before .before .before in
+    let e = c .before .before .l1 .ensures in
+    as-told s L1 _ (λ i. left (e .0 i) (s .args .part .now) (s .args .queue .now) (s .args .images .now) (e .1 i)) (c .before .before .before .before .before .enum-told3 .given .1)
 
 same-length-7 : tie.Need-same-length-7
 same-length-7 c = search needs
@@ -133,7 +151,10 @@ same-length-9 c = search needs
 
 returns-4 : tie.Need-returns-4
 unfolding on-file
-returns-4 c = rw (c .before .before .before .before .before .before .before .before .enum-told4 .given .1, c .before .before .before .before .l4 .ensures .0, c .before .before .before .before .l4 .ensures .1 .0, c .before .before .before .before .l4 .ensures .1 .1)
+returns-4 c =
+    let s = c .before .before .before .before .before .before .before .before .before .before .before .before .before .before .before in
+    let e = c .before .before .before .before .l4 .ensures in
+    as-told s L4 _ (λ i. left (e .0 i) (s .args .part .now) (e .1 .0 i) (s .args .images .now) (e .1 .1 i)) (c .before .before .before .before .before .before .before .before .enum-told4 .given .1)
 
 same-length-10 : tie.Need-same-length-10
 same-length-10 c = search needs
@@ -150,8 +171,9 @@ same-length-13 c = search needs
 returns-5 : tie.Need-returns-5
 unfolding on-file
 returns-5 c =
+    let s = c .before .before .before .before .before .before .before .before .before .before .before .before .before .before .before .before .before .before in
     let e = c .before .before .before .before .before .before .a1 .ensures in
-    rw (c .before .before .before .before .before .before .before .before .before .before .before .enum-told5 .given .1) (λ i. left (e .0 i) (e .1 .0 i) (e .1 .1 .0 i) (e .1 .1 .1 i) (c .before .before .before .before .before .before .before .before .before .before .before .before .before .before .before .before .before .before .args .buffer .now))
+    as-told s A1 _ (λ i. left (e .0 i) (e .1 .0 i) (e .1 .1 .0 i) (e .1 .1 .1 i) (s .args .buffer .now)) (c .before .before .before .before .before .before .before .before .before .before .before .enum-told5 .given .1)
 
 same-length-14 : tie.Need-same-length-14
 same-length-14 c = search needs
@@ -165,8 +187,9 @@ same-length-16 c = search needs
 returns-6 : tie.Need-returns-6
 unfolding on-file
 returns-6 c =
+    let s = c .before .before .before .before .before .before .before .before .before .before .before .before .before .before .before .before .before in
     let e = c .before .before .before .before .before .before .e1 .ensures in
-    rw (c .before .before .before .before .before .before .before .before .before .before .enum-told6 .given .1) (λ i. left (e .0 i) (e .1 .0 i) (e .1 .1 .0 i) (e .1 .1 .1 i) (c .before .before .before .before .before .before .before .before .before .before .before .before .before .before .before .before .before .args .buffer .now))
+    as-told s E1 _ (λ i. left (e .0 i) (e .1 .0 i) (e .1 .1 .0 i) (e .1 .1 .1 i) (s .args .buffer .now)) (c .before .before .before .before .before .before .before .before .before .before .enum-told6 .given .1)
 
 same-length-17 : tie.Need-same-length-17
 same-length-17 c = search needs
@@ -183,8 +206,9 @@ same-length-20 c = search needs
 returns-7 : tie.Need-returns-7
 unfolding on-file
 returns-7 c =
+    let s = c .before .before .before .before .before .before .before .before .before .before .before .before .before .before .before .before .before .before in
     let e = c .before .before .before .before .before .before .n1 .ensures in
-    rw (c .before .before .before .before .before .before .before .before .before .before .before .enum-told7 .given .1) (λ i. left (e .0 i) (e .1 .0 i) (e .1 .1 .0 i) (e .1 .1 .1 i) (c .before .before .before .before .before .before .before .before .before .before .before .before .before .before .before .before .before .before .args .buffer .now))
+    as-told s N1 _ (λ i. left (e .0 i) (e .1 .0 i) (e .1 .1 .0 i) (e .1 .1 .1 i) (s .args .buffer .now)) (c .before .before .before .before .before .before .before .before .before .before .before .enum-told7 .given .1)
 
 same-length-21 : tie.Need-same-length-21
 same-length-21 c = search needs
@@ -201,8 +225,9 @@ same-length-24 c = search needs
 returns-8 : tie.Need-returns-8
 unfolding on-file
 returns-8 c =
+    let s = c .before .before .before .before .before .before .before .before .before .before .before .before .before .before .before .before .before .before in
     let e = c .before .before .before .before .before .before .n2 .ensures in
-    rw (c .before .before .before .before .before .before .before .before .before .before .before .enum-told8 .given .1) (λ i. left (e .0 i) (e .1 .0 i) (e .1 .1 .0 i) (e .1 .1 .1 i) (c .before .before .before .before .before .before .before .before .before .before .before .before .before .before .before .before .before .before .args .buffer .now))
+    as-told s N2 _ (λ i. left (e .0 i) (e .1 .0 i) (e .1 .1 .0 i) (e .1 .1 .1 i) (s .args .buffer .now)) (c .before .before .before .before .before .before .before .before .before .before .before .enum-told8 .given .1)
 
 returns-9 : tie.Need-returns-9
 unfolding on-file
