@@ -9,6 +9,7 @@ use nucleus::Command;
 use nucleus::MAX_USERS;
 use nucleus::Response;
 
+// What the command and the user of a call are taken for.
 pub enum Understood {
     As(Command),
     Refused(Response),

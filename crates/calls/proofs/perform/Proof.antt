@@ -11,6 +11,8 @@ use Rattle.nucleus.specs.declared.Command.{Command}
 use Rattle.nucleus.specs.declared.Command.the-variants.{Hi, Ri, L1, L4, A1, E1, N1, N2, Et, Bt, Re, Op, Cl}
 use Rattle.shares.specs.declared.Share.{Share}
 use Rattle.codes.proofs.Groups.{in-group}
+use Rattle.shares.specs.Outcomes.{et-done, et-queue, et-images}
+use Rattle.file_commands.specs.FileCommands.{Left, left}
 use Rattle.calls.specs.Commands.{in-file, about-file, performed}
 use Rattle.calls.proofs.perform.Statement.{statement}
 use Rattle.calls.proofs.perform.Tie as tie
@@ -35,6 +37,14 @@ module _ (call : Call) (most clock : ℕ) (x : Share) (d : Definition) (store qu
   of-file Re h = not-both false h refl
   of-file Op h = not-both false h refl
   of-file Cl h = not-both false h refl
+
+-- what a command left, where the command is told
+abbrev on : tie.Start → Command → Left
+on s c =
+    performed (s .args .call) (s .args .most) (s .args .clock) (s .args .share) (s .args .d) (s .args .store .now) (s .args .queue .now) (s .args .images .now) (s .args .format .now) (s .args .buffer .now) c
+
+as-told : (s : tie.Start) (c : Command) (l : Left) → l ≡ on s c → s .args .command ≡ c → l ≡ on s (s .args .command)
+as-told s c l e told = e ∙ sym (ap (on s) told)
 
 enum-told : tie.Need-enum-told
 enum-told c = search needs
@@ -93,8 +103,12 @@ same-length-3 c = search needs
 returns : tie.Need-returns
 unfolding performed
 returns c =
-    let e = c .before .before .before .before in
-    rw (c .before .before .before .before .before .before .before .before .before .enum-told .given .1, e .et .ensures .0, e .et .ensures .1 .0, e .et .ensures .1 .1, c .before .before .before .before .before .before .before .before .image-length .ensures)
+    let s = c .before .before .before .before .before .before .before .before .before .before .before .before .before .before .before .before in
+    let e = c .before .before .before .before .et .ensures in
+    as-told s Et _
+    ((λ i. left (e .0 i) (s .args .store .now) (e .1 .0 i) (e .1 .1 i) (s .args .buffer .now))
+    ∙ ap (λ w. left (et-done (s .args .call) (s .args .share) (s .args .queue .now) (s .args .images .now) w (s .args .buffer .now)) (s .args .store .now) (et-queue (s .args .call) (s .args .share) (s .args .queue .now) (s .args .images .now) w (s .args .buffer .now)) (et-images (s .args .call) (s .args .share) (s .args .queue .now) (s .args .images .now) w (s .args .buffer .now)) (s .args .buffer .now)) (c .before .before .before .before .before .before .before .before .image-length .ensures))
+    (c .before .before .before .before .before .before .before .before .before .enum-told .given .1)
 
 same-length-4 : tie.Need-same-length-4
 same-length-4 c = search needs
@@ -116,15 +130,22 @@ same-length-7 c = search needs
 
 returns-3 : tie.Need-returns-3
 unfolding performed
-returns-3 c = rw (c .before .before .before .before .enum-told3 .given .1, c .before .before .re .ensures .0, c .before .before .re .ensures .1)
+returns-3 c =
+    let s = c .before .before .before .before .before .before .before .before .before .before .before in
+    let e = c .before .before .re .ensures in
+    as-told s Re _ (λ i. left (e .0 i) (s .args .store .now) (s .args .queue .now) (s .args .images .now) (e .1 i)) (c .before .before .before .before .enum-told3 .given .1)
 
 returns-4 : tie.Need-returns-4
 unfolding performed
-returns-4 c = rw (c .before .enum-told4 .given .1, c .op .ensures)
+returns-4 c =
+    let s = c .before .before .before .before .before .before .before .before in
+    as-told s Op _ (λ i. left (c .op .ensures i) (s .args .store .now) (s .args .queue .now) (s .args .images .now) (s .args .buffer .now)) (c .before .enum-told4 .given .1)
 
 returns-5 : tie.Need-returns-5
 unfolding performed
-returns-5 c = rw (c .before .enum-told5 .given .1, c .cl .ensures)
+returns-5 c =
+    let s = c .before .before .before .before .before .before .before .before in
+    as-told s Cl _ (λ i. left (c .cl .ensures i) (s .args .store .now) (s .args .queue .now) (s .args .images .now) (s .args .buffer .now)) (c .before .enum-told5 .given .1)
 
 same-length-8 : tie.Need-same-length-8
 same-length-8 c = search needs
@@ -140,7 +161,7 @@ same-length-11 c = search needs
 
 returns-6 : tie.Need-returns-6
 unfolding performed
-returns-6 c = rw (c .before .before .before .before .before .before .before .before .before .before .before .before .before .enum-told6 .given .1) (c .before .before .before .before .before .before .before .before .ri .ensures)
+returns-6 c = as-told (c .before .before .before .before .before .before .before .before .before .before .before .before .before .before .before .before .before .before .before .before) Ri _ (c .before .before .before .before .before .before .before .before .ri .ensures) (c .before .before .before .before .before .before .before .before .before .before .before .before .before .enum-told6 .given .1)
 
 same-length-12 : tie.Need-same-length-12
 same-length-12 c = search needs
