@@ -4,7 +4,7 @@ use mathlib.Core.List.{List, [], _∷_}
 use Rattle.nucleus.specs.Responses.{number}
 use Rattle.nucleus.specs.Nucleus.{Given}
 use Rattle.claim.specs.Journal.{Journal, fed}
-use Rattle.claim.specs.Run.{World, step-given, called}
+use Rattle.claim.specs.Run.{World, call-given, called}
 
 pub record Answered : Type 0 where
   pub given : Given
@@ -15,7 +15,7 @@ pub record Answered : Type 0 where
 abbrev pub answers : ℕ → List Given → World → List Answered
 answers capacity [] w = []
 answers capacity (g ∷ gs) w =
-    record { given = g; response = number (step-given capacity g w .answer .response); isn = step-given capacity g w .answer .isn } ∷ answers capacity gs (called capacity g w)
+    record { given = g; response = number (call-given capacity g w .answer .response); isn = call-given capacity g w .answer .isn } ∷ answers capacity gs (called capacity g w)
 
 abbrev pub fed-all : List Answered → Journal → Journal
 fed-all [] j = j

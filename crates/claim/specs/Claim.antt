@@ -19,26 +19,27 @@ use Rattle.definition.specs.declared.Definition.{Definition}
 use Rattle.layout.specs.Layout.{place, file-found}
 use Rattle.store.specs.Store.{field-value}
 use Rattle.reading.specs.Grammar.{read-table}
-use Rattle.nucleus.specs.Nucleus.{Nucleus, Given}
-use Rattle.nucleus.specs.Step.{set-up}
+use Rattle.nucleus.specs.Nucleus.{Given}
+use Rattle.entries.specs.declared.Entry.{Entry}
+use Rattle.database.specs.Database.{set-up-database}
 use Rattle.nucleus.specs.declared.Response.the-variants.{Good}
 use Rattle.claim.specs.Journal.{Journal, in-transaction, record-told}
 use Rattle.claim.specs.Run.{World, BackOut, run, begin, back-outs, struck-all, record-in}
 
 -- ---- equal records: "Equal are, in each file, the ISNs with a record and its bytes"
-abbrev pub SameRecords : Definition → Nucleus → Journal → Type 0
-SameRecords d n j = (file isn : ℕ) → record-in d n file isn ≡ record-told d j file isn
+abbrev pub SameRecords : Definition → List ℕ → Journal → Type 0
+SameRecords d store j = (file isn : ℕ) → record-in d store file isn ≡ record-told d j file isn
 
 -- ---- no unique value twice
 abbrev pub file-numbered : Definition → ℕ → File
 file-numbered d file = file-found d (place d file)
 
-abbrev pub UniqueValues : Definition → Nucleus → Type 0
-UniqueValues d n =
+abbrev pub UniqueValues : Definition → List ℕ → Type 0
+UniqueValues d store =
     (file isn other k : ℕ) (a b : List ℕ)
     → isn ≢ other
-    → record-in d n file isn ≡ some a
-    → record-in d n file other ≡ some b
+    → record-in d store file isn ≡ some a
+    → record-in d store file other ≡ some b
     → k < field-count (file-numbered d file)
     → field-at (file-numbered d file) k .option ≡ Unique
     → field-value (file-numbered d file) k a ≢ field-value (file-numbered d file) k b
@@ -53,13 +54,13 @@ pub record Chosen (bs : List BackOut) (j : Journal) : Type 0 where
   pub active : all (in-transaction j) (users-of bs) ≡ true
 
 pub record NeverWas (capacity : ℕ) (d : Definition) (bs : List BackOut) (w : World) : Type 0 where
-  pub same-records : SameRecords d (back-outs capacity bs (w .nucleus)) (struck-all bs (w .journal))
-  pub unique-values : UniqueValues d (back-outs capacity bs (w .nucleus))
+  pub same-records : SameRecords d (back-outs capacity bs (w .database) .store) (struck-all bs (w .journal))
+  pub unique-values : UniqueValues d (back-outs capacity bs (w .database) .store)
 
 -- "The book of requirement 3 has the set-up's table": files and fields are those that set-up read
 abbrev pub Requirement3 : Type 0
 Requirement3 =
-    (capacity : ℕ) (table store queue images : List ℕ) (calls : List Given) (bs : List BackOut)
-    → set-up capacity store queue images table .response ≡ Good
+    (capacity : ℕ) (table store : List ℕ) (queue : List Entry) (images : List ℕ) (calls : List Given) (bs : List BackOut)
+    → set-up-database capacity store queue images table .response ≡ Good
     → Chosen bs (run capacity calls (begin capacity store queue images table) .journal)
     → NeverWas capacity (read-table table .definition) bs (run capacity calls (begin capacity store queue images table))

@@ -3,6 +3,7 @@
 -- Assumes nothing.
 use Prim.Native.Nat.{ℕ, _*_}
 use mathlib.Core.Path.{_≡_, refl}
+use mathlib.Core.Bool.{Bool, true, false}
 use mathlib.Core.List.{List, [], _∷_, _++_, map}
 use mathlib.Core.Option.{Option, none, some}
 use Prim.Native.String.{String}
@@ -35,7 +36,7 @@ use Rattle.hold.specs.Hold.{put-back-in, put-back, restore}
 use Rattle.nucleus.specs.Text.{text}
 use Rattle.nucleus.specs.Commands.{command-of, has-option, blank, option-H}
 use Rattle.nucleus.specs.Users.{is-active}
-use Rattle.nucleus.specs.Nucleus.{Given, given, max-users, user-of}
+use Rattle.nucleus.specs.Nucleus.{Given, given, max-users, user-at}
 use Rattle.nucleus.specs.WellMade.{too-short, well-made}
 use Rattle.nucleus.specs.Clock.{removed, backed-out, clocked}
 use Rattle.nucleus.specs.Target.{target, new-record}
@@ -43,6 +44,8 @@ use Rattle.nucleus.specs.Rows.{rows-usable, rows-understood, is-overdue, sessio
 use Rattle.nucleus.specs.Effects.{held, imaged, written, erased, effect-at}
 use Rattle.nucleus.specs.Step.{admitted-session, admitted-user, admitted, perform, step, set-up}
 use Rattle.nucleus.specs.declared.Response.the-variants.{Good}
+use Rattle.entries.specs.declared.Entry.{Entry}
+use Rattle.database.specs.Database.{fitting, direct-call, set-up-database}
 use Rattle.claim.specs.Journal.{apply, Member, Journal, new-member, new-journal, in-transaction, struck, log-clock, log-start, log-change, log-end, log-limit, fed, record-told}
 use Rattle.claim.specs.Run.{World, run, begin, BackOut, back-outs, struck-all, record-in}
 use Rattle.claim.specs.Answers.{Answered, answers, fed-all}
@@ -52,9 +55,13 @@ use Rattle.claim.specs.Claim.{Chosen}
 abbrev capacity : ℕ
 capacity = 64
 
+-- what lies in a queue that nobody has used
+abbrev no-hold : Entry
+no-hold = record { user = 0; file = 0; isn = 0; changed = false; existed = false }
+
 -- a fresh nucleus and journal, of a table whose store takes at most 16 bytes and whose records at most 3
 abbrev fresh-world : List ℕ → World
-fresh-world table = begin capacity (replicate 16 0) (replicate capacity 0) (replicate (capacity * 3) 0) table
+fresh-world table = begin capacity (replicate 16 0) (replicate capacity no-hold) (replicate (capacity * 3) 0) table
 
 -- what the journal has: the records at ISN 1 to 3 of file 1, who of 0 to 33 is in a transaction, each user's limit and start, the clock
 record JournalView : Type 0 where
@@ -80,8 +87,8 @@ record View : Type 0 where
 abbrev view : List ℕ → World → View
 view table w = record {
   journal = journal-view (read-table table .definition) (w .journal);
-  records = map (record-in (read-table table .definition) (w .nucleus) 1) (numbers 3 1);
-  active = sift (λ u. is-active (user-of (w .nucleus) u)) (numbers max-users 1);
+  records = map (record-in (read-table table .definition) (w .database .store) 1) (numbers 3 1);
+  active = sift (λ u. is-active (user-at (w .database .state) u)) (numbers max-users 1);
 }
 
 abbrev after-calls : List ℕ → List Given → View
@@ -91,7 +98,7 @@ after-calls table calls = view table (run capacity calls (fresh-world table))
 abbrev after-back-outs : List ℕ → List Given → List BackOut → View
 after-back-outs table calls bs =
     let w = run capacity calls (fresh-world table) in
-    view table (record { nucleus = back-outs capacity bs (w .nucleus); journal = struck-all bs (w .journal) })
+    view table (record { database = back-outs capacity bs (w .database); journal = struck-all bs (w .journal) })
 
 -- nobody but users 1 and 2 has changed as a member
 abbrev told : List (Option (List ℕ)) → List ℕ → Member → Member → ℕ → JournalView
@@ -222,7 +229,7 @@ rows =
     } ∷
     -- nothing of the nucleus's state comes into the journal: one that is ahead of it goes by its own clock
     record {
-      computed = view house-table (run capacity (bare "HI" 1 1 3 ∷ []) (record { nucleus = fresh-world house-table .nucleus; journal = ahead }));
+      computed = view house-table (run capacity (bare "HI" 1 1 3 ∷ []) (record { database = fresh-world house-table .database; journal = ahead }));
       expected = both (none ∷ none ∷ none ∷ []) (1 ∷ []) (since 7 900) (idle 900) 7;
     } ∷ []
 
@@ -256,23 +263,39 @@ journal-rows =
     -- a record of another file
     journal-row (answered 0 1 (in-file 2 (adds 0)) ∷ []) (told (none ∷ none ∷ none ∷ []) (1 ∷ []) (since 0 900) (idle 900) 0) ∷ []
 
+-- ---- the hold queue: "oldest first, and removal closes the gap"; entries past H, here 2, as they were lent
+abbrev strange : Entry
+strange = record { user = 200; file = 201; isn = 60000; changed = true; existed = true }
+
+abbrev queue-after : List Given → List Entry
+queue-after calls = run 2 calls (begin 2 (replicate 16 0) (replicate 3 strange) (replicate 6 0) house-table) .database .queue
+
+abbrev hold-of : ℕ → ℕ → Bool → Entry
+hold-of user isn changed = record { user = user; file = 1; isn = isn; changed = changed; existed = false }
+
 -- ---- all of it, a `refl` for each row
 record Worked : Type 0 where
   -- the premises of the claim hold of such a set-up, list of calls and BTs
-  good : set-up capacity (replicate 16 0) (replicate capacity 0) (replicate (capacity * 3) 0) house-table .response ≡ Good
+  good : set-up-database capacity (replicate 16 0) (replicate capacity no-hold) (replicate (capacity * 3) 0) house-table .response ≡ Good
   chosen : Chosen (out 2 ∷ out 1 ∷ []) (run capacity two-adds (fresh-world house-table) .journal)
   -- response and ISN of the house list's lines: what the journal is fed
   house-answers : map (λ (a : Answered). a .response ∷ a .isn ∷ []) (answers capacity house-calls (fresh-world house-table))
       ≡ (0 ∷ 1 ∷ []) ∷ (0 ∷ 0 ∷ []) ∷ (0 ∷ 1 ∷ []) ∷ (198 ∷ 0 ∷ []) ∷ (145 ∷ 0 ∷ []) ∷ (0 ∷ 0 ∷ []) ∷ (0 ∷ 1 ∷ []) ∷ []
+  held-one : queue-after (bare "HI" 1 3 0 ∷ []) ≡ hold-of 1 3 false ∷ strange ∷ strange ∷ []
+  held-two : queue-after (bare "HI" 1 3 0 ∷ adds 0 ∷ []) ≡ hold-of 1 3 false ∷ hold-of 1 1 true ∷ strange ∷ []
+  gap-closed : take 1 (queue-after (bare "HI" 1 3 0 ∷ adds 0 ∷ bare "RI" 1 3 0 ∷ [])) ≡ hold-of 1 1 true ∷ []
   rows-as-expected : Each (λ (r : Row). r .computed ≡ r .expected) rows
   journal-rows-as-expected : Each (λ (r : JournalRow). r .computed ≡ r .expected) journal-rows
 
 worked : Worked
-unfolding house-table house-calls two-adds erasing packed-table rows journal-rows record-length field-offset file-offset store-size image-length place valid file-valid field-valid name-valid format-of option-of file-item field-item item-of read-from read-table stored below-zero allowed null-value field-named format-valid element places named-twice length-needed needed-within fits read-fields write-fields values-allowed null-record slot-fits has-record get lowest elsewhere put-record empty fresh file-part with-part pack-of unpack-of entries holder held-by repeated append change closed remove-queue remove-images remove-count image-has keep-image settled first-change-queue first-change-images put-back-in put-back restore command-of has-option too-short well-made removed backed-out clocked target rows-usable rows-understood is-overdue session-in-transaction access-refused file-unknown isn-invalid format-refused field-twice record-length-refused value-refused none-found held-elsewhere presence-refused not-held release-refused file-full limit-reached queue-full new-record value-taken held imaged written erased effect-at admitted-session admitted-user admitted perform step set-up apply struck log-clock log-start log-change log-end log-limit fed record-told run
+unfolding house-table house-calls two-adds erasing packed-table rows journal-rows record-length field-offset file-offset store-size image-length place valid file-valid field-valid name-valid format-of option-of file-item field-item item-of read-from read-table stored below-zero allowed null-value field-named format-valid element places named-twice length-needed needed-within fits read-fields write-fields values-allowed null-record slot-fits has-record get lowest elsewhere put-record empty fresh file-part with-part pack-of unpack-of entries holder held-by repeated append change closed remove-queue remove-images remove-count image-has keep-image settled first-change-queue first-change-images put-back-in put-back restore command-of has-option too-short well-made removed backed-out clocked target rows-usable rows-understood is-overdue session-in-transaction access-refused file-unknown isn-invalid format-refused field-twice record-length-refused value-refused none-found held-elsewhere presence-refused not-held release-refused file-full limit-reached queue-full new-record value-taken held imaged written erased effect-at admitted-session admitted-user admitted perform step set-up fitting direct-call set-up-database apply struck log-clock log-start log-change log-end log-limit fed record-told run
 worked = record {
   good = refl;
   chosen = record { different = refl; active = refl };
   house-answers = refl;
+  held-one = refl;
+  held-two = refl;
+  gap-closed = refl;
   rows-as-expected = (refl, (refl, (refl, (refl, (refl, (refl, (refl, (refl, (refl, (refl, (refl, (refl, (refl, (refl, (refl, (refl, (refl, (refl, (refl, (refl, (refl, (refl, (refl, (refl, (refl, (refl, (refl, tt)))))))))))))))))))))))))));
   journal-rows-as-expected = (refl, (refl, (refl, (refl, tt))));
 }

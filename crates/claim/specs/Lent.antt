@@ -7,23 +7,23 @@ use Rattle.definition.specs.declared.Definition.{Definition}
 use Rattle.layout.specs.Layout.{store-size, image-length}
 use Rattle.reading.specs.Grammar.{read-table}
 
--- the table that set-up read; store, queue and image buffer as they were lent to it
-pub record Lent : Type 0 where
+-- the table that set-up read; store, queue and image buffer as they were lent to it. The queue is a list of entries, and in proofs one of words
+pub record Lent (A : Type 0) : Type 0 where
   pub definition : Definition
   pub store : List ℕ
-  pub queue : List ℕ
+  pub queue : List A
   pub images : List ℕ
 
-abbrev pub lent-at : List ℕ → List ℕ → List ℕ → List ℕ → Lent
+abbrev pub lent-at : {A : Type 0} → List ℕ → List ℕ → List A → List ℕ → Lent A
 lent-at table store queue images = record { definition = read-table table .definition; store = store; queue = queue; images = images }
 
 -- as long as it was, and past the first `size` as it was
-pub record Alike (size : ℕ) (new old : List ℕ) : Type 0 where
+pub record Alike {A : Type 0} (size : ℕ) (new old : List A) : Type 0 where
   pub same-length : length new ≡ length old
   pub same-past : drop size new ≡ drop size old
 
 -- the three beside what was lent: sizes are those of document 01, "H entries", "H times the greatest width"
-pub record Past (capacity : ℕ) (d : Definition) (lent : Lent) (store queue images : List ℕ) : Type 0 where
+pub record Past {A : Type 0} (capacity : ℕ) (d : Definition) (lent : Lent A) (store : List ℕ) (queue : List A) (images : List ℕ) : Type 0 where
   pub store-past : Alike (store-size d) store (lent .store)
   pub queue-past : Alike capacity queue (lent .queue)
   pub images-past : Alike (capacity * image-length d) images (lent .images)

@@ -16,9 +16,10 @@ use Rattle.nulls.specs.Nulls.{nulls}
 use Rattle.reading.specs.Grammar.{read-table}
 use Rattle.nucleus.specs.Commands.{code}
 use Rattle.nucleus.specs.Users.{is-active}
-use Rattle.nucleus.specs.Nucleus.{Nucleus, Given, max-users, user-of}
+use Rattle.nucleus.specs.Nucleus.{Nucleus, Given, max-users, user-at}
 use Rattle.nucleus.specs.WellMade.{too-short, well-made}
-use Rattle.nucleus.specs.Step.{set-up}
+use Rattle.entries.specs.declared.Entry.{Entry}
+use Rattle.database.specs.Database.{Database, in-words, set-up-database}
 use Rattle.nucleus.specs.declared.Call.{Call}
 use Rattle.nucleus.specs.declared.Command.the-variants.{N1, N2}
 use Rattle.nucleus.specs.declared.Response.the-variants.{Good}
@@ -34,11 +35,11 @@ unusable response = any (eqb response) (10 ∷ 11 ∷ 12 ∷ [])
 
 abbrev pub NeverUnusable : Type 0
 NeverUnusable =
-    (capacity : ℕ) (table store queue images : List ℕ) (calls : List Given)
-    → set-up capacity store queue images table .response ≡ Good
+    (capacity : ℕ) (table store : List ℕ) (queue : List Entry) (images : List ℕ) (calls : List Given)
+    → set-up-database capacity store queue images table .response ≡ Good
     → any (λ (a : Answered). unusable (a .response)) (answers capacity calls (begin capacity store queue images table)) ≡ false
 
--- ---- the state keeps the table that set-up read, it stays well made, and nothing lent is too short
+-- ---- the state keeps the table that set-up read, it stays well made, and nothing lent is too short: as the nucleus has it, with its entries in words
 pub record Usable (capacity : ℕ) (d : Definition) (n : Nucleus) : Type 0 where
   pub same-table : n .state .definition ≡ d
   pub made : well-made capacity n ≡ true
@@ -46,36 +47,36 @@ pub record Usable (capacity : ℕ) (d : Definition) (n : Nucleus) : Type 0 where
 
 abbrev pub StaysUsable : Type 0
 StaysUsable =
-    (capacity : ℕ) (table store queue images : List ℕ) (calls : List Given)
-    → set-up capacity store queue images table .response ≡ Good
-    → Usable capacity (read-table table .definition) (run capacity calls (begin capacity store queue images table) .nucleus)
+    (capacity : ℕ) (table store : List ℕ) (queue : List Entry) (images : List ℕ) (calls : List Given)
+    → set-up-database capacity store queue images table .response ≡ Good
+    → Usable capacity (read-table table .definition) (in-words capacity (run capacity calls (begin capacity store queue images table) .database))
 
 -- ---- whom the journal has in a transaction the nucleus has in one, and nobody else
 abbrev pub SameTransactions : Type 0
 SameTransactions =
-    (capacity : ℕ) (table store queue images : List ℕ) (calls : List Given) (u : ℕ)
-    → set-up capacity store queue images table .response ≡ Good
+    (capacity : ℕ) (table store : List ℕ) (queue : List Entry) (images : List ℕ) (calls : List Given) (u : ℕ)
+    → set-up-database capacity store queue images table .response ≡ Good
     → in-transaction (run capacity calls (begin capacity store queue images table) .journal) u
-    ≡ (within 1 max-users u && is-active (user-of (run capacity calls (begin capacity store queue images table) .nucleus) u))
+    ≡ (within 1 max-users u && is-active (user-at (run capacity calls (begin capacity store queue images table) .database .state) u))
 
 -- ---- the BTs of the claim, after any list of calls
 -- each answers 0, one after another
 abbrev pub BackOutsAccepted : Type 0
 BackOutsAccepted =
-    (capacity : ℕ) (table store queue images : List ℕ) (calls : List Given) (bs : List BackOut)
-    → set-up capacity store queue images table .response ≡ Good
+    (capacity : ℕ) (table store : List ℕ) (queue : List Entry) (images : List ℕ) (calls : List Given) (bs : List BackOut)
+    → set-up-database capacity store queue images table .response ≡ Good
     → Chosen bs (run capacity calls (begin capacity store queue images table) .journal)
     → all (λ (a : Answered). eqb (a .response) 0) (answers capacity (map bt bs) (run capacity calls (begin capacity store queue images table))) ≡ true
 
 -- they are a list of calls too: what it leaves of the nucleus is what the claim speaks of
 abbrev pub BackOutsAreCalls : Type 0
-BackOutsAreCalls = (capacity : ℕ) (bs : List BackOut) (w : World) → run capacity (map bt bs) w .nucleus ≡ back-outs capacity bs (w .nucleus)
+BackOutsAreCalls = (capacity : ℕ) (bs : List BackOut) (w : World) → run capacity (map bt bs) w .database ≡ back-outs capacity bs (w .database)
 
 -- and the journal that is fed them, with what the nucleus answers, is the one whose open changes the claim strikes
 abbrev pub BackOutsAreFed : Type 0
 BackOutsAreFed =
-    (capacity : ℕ) (table store queue images : List ℕ) (calls : List Given) (bs : List BackOut)
-    → set-up capacity store queue images table .response ≡ Good
+    (capacity : ℕ) (table store : List ℕ) (queue : List Entry) (images : List ℕ) (calls : List Given) (bs : List BackOut)
+    → set-up-database capacity store queue images table .response ≡ Good
     → Chosen bs (run capacity calls (begin capacity store queue images table) .journal)
     → run capacity (map bt bs) (run capacity calls (begin capacity store queue images table)) .journal
     ≡ struck-all bs (run capacity calls (begin capacity store queue images table) .journal)
@@ -98,13 +99,13 @@ AddedTold =
     → record-told d (fed call format buffer 0 isn j) (call .file) isn ≡ some (record-added d call format buffer)
 
 -- ---- "Bytes and entries past these sizes are never touched", by the calls and by the BTs after them
-abbrev pub AsLent : ℕ → Definition → Lent → Nucleus → Type 0
+abbrev pub AsLent : ℕ → Definition → Lent Entry → Database → Type 0
 AsLent capacity d lent n = Past capacity d lent (n .store) (n .queue) (n .images)
 
 abbrev pub NeverTouched : Type 0
 NeverTouched =
-    (capacity : ℕ) (table store queue images : List ℕ) (calls : List Given) (bs : List BackOut)
-    → set-up capacity store queue images table .response ≡ Good
+    (capacity : ℕ) (table store : List ℕ) (queue : List Entry) (images : List ℕ) (calls : List Given) (bs : List BackOut)
+    → set-up-database capacity store queue images table .response ≡ Good
     → Chosen bs (run capacity calls (begin capacity store queue images table) .journal)
     → AsLent capacity (read-table table .definition) (lent-at table store queue images)
-    (back-outs capacity bs (run capacity calls (begin capacity store queue images table) .nucleus))
+    (back-outs capacity bs (run capacity calls (begin capacity store queue images table) .database))

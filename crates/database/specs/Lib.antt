@@ -1,1 +1,3 @@
 pub mod Database
+pub mod Words
+mod Examples

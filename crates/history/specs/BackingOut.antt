@@ -15,14 +15,17 @@ use Rattle.lists.specs.Folds.{any, all, distinct}
 use Rattle.nucleus.specs.Commands.{command-of}
 use Rattle.nucleus.specs.Responses.{number}
 use Rattle.nucleus.specs.Nucleus.{Nucleus, Result, max-users}
+use Rattle.database.specs.Database.{Database, in-words, direct-call}
 use Rattle.nucleus.specs.Step.{step}
 use Rattle.claim.specs.Journal.{Journal, member, new-member, has-start, in-transaction, struck, fed}
 use Rattle.claim.specs.Run.{World, BackOut, called, run, bt, back-outs, struck-all}
 use Rattle.claim.specs.Claim.{users-of, Chosen}
 use Rattle.claim.specs.Answers.{Answered, answers}
-use Rattle.claim.specs.Lent.{Lent}
+use Rattle.claim.specs.Lent.{Lent, Alike}
+use Rattle.history.specs.Sizes.{alike-self, alike-then}
 use Rattle.history.specs.Passing.{Passed}
 use Rattle.history.specs.Stepping.{stepped}
+use Rattle.history.specs.EntryLists.{passed-called, queue-called}
 use Rattle.history.specs.Resting.{journal-rests, bt-good, inside}
 
 -- another user is in his transaction still
@@ -41,7 +44,7 @@ all-still j u least (v ∷ us) f h = rw (
   all-still j u least us (or-right (eqb u v) (any (eqb u) us) f) (and-right (in-transaction j v) (all (in-transaction j) us) h),
 )
 
-module _ (capacity : ℕ) (lent : Lent) where
+module _ (capacity : ℕ) (lent : Lent ℕ) where
   -- ---- the first of them
   module _ (n : Nucleus) (j : Journal) (p : Passed capacity lent n j) (b : BackOut) (bs : List BackOut) (c : Chosen (b ∷ bs) j) where
     abbrev u : ℕ
@@ -86,24 +89,46 @@ module _ (capacity : ℕ) (lent : Lent) where
     chosen-fed : Chosen bs fed-bt
     chosen-fed = subst (λ i. Chosen bs i) (sym struck-bt) chosen-left
 
-  -- ---- all of them
-  pub passed-back-outs : (bs : List BackOut) (n : Nucleus) (j : Journal) → Passed capacity lent n j → Chosen bs j → Passed capacity lent (back-outs capacity bs n) (struck-all bs j)
-  passed-back-outs [] n j p c = p
-  passed-back-outs (b ∷ bs) n j p c = passed-back-outs bs (x n j p b bs c .nucleus) (struck (b .user) j) (passed-bt n j p b bs c) (chosen-left n j p b bs c)
+  -- ---- all of them, on a list of entries
+  abbrev InWords : Database → Journal → Type 0
+  InWords b j = Passed capacity lent (in-words capacity b) j
 
-  pub accepted-back-outs : (bs : List BackOut) (w : World) → Passed capacity lent (w .nucleus) (w .journal) → Chosen bs (w .journal)
+  -- the first has gone
+  module _ (n : Database) (j : Journal) (p : InWords n j) (b : BackOut) (bs : List BackOut) (c : Chosen (b ∷ bs) j) where
+    abbrev pub next : Database
+    next = direct-call capacity (bt b .call) (b .format) (b .buffer) n .database
+
+    fed-next : InWords next (fed-bt (in-words capacity n) j p b bs c)
+    fed-next = passed-called capacity lent n j p (bt b .call) (b .format) (b .buffer)
+
+    struck-next : InWords next (struck (b .user) j)
+    struck-next = subst (InWords next) (struck-bt (in-words capacity n) j p b bs c) fed-next
+
+  pub passed-back-outs : (bs : List BackOut) (n : Database) (j : Journal) → InWords n j → Chosen bs j → InWords (back-outs capacity bs n) (struck-all bs j)
+  passed-back-outs [] n j p c = p
+  passed-back-outs (b ∷ bs) n j p c =
+      passed-back-outs bs (next n j p b bs c) (struck (b .user) j) (struck-next n j p b bs c) (chosen-left (in-words capacity n) j p b bs c)
+
+  pub queue-back-outs : (bs : List BackOut) (n : Database) (j : Journal) → InWords n j → Chosen bs j → Alike capacity (back-outs capacity bs n .queue) (n .queue)
+  queue-back-outs [] n j p c = alike-self capacity (n .queue)
+  queue-back-outs (b ∷ bs) n j p c = alike-then capacity _ _ _
+      (queue-back-outs bs (next n j p b bs c) (struck (b .user) j) (struck-next n j p b bs c) (chosen-left (in-words capacity n) j p b bs c))
+      (queue-called capacity lent n j p (bt b .call) (b .format) (b .buffer))
+
+  pub accepted-back-outs : (bs : List BackOut) (w : World) → InWords (w .database) (w .journal) → Chosen bs (w .journal)
       → all (λ (a : Answered). eqb (a .response) 0) (answers capacity (map bt bs) w) ≡ true
+  unfolding direct-call
   accepted-back-outs [] w p c = refl
   accepted-back-outs (b ∷ bs) w p c =
-      let n = w .nucleus in
+      let n = in-words capacity (w .database) in
       let j = w .journal in
-      rw (answered-zero n j p b bs c) (accepted-back-outs bs (called capacity (bt b) w) (passed-fed n j p b bs c) (chosen-fed n j p b bs c))
+      rw (answered-zero n j p b bs c) (accepted-back-outs bs (called capacity (bt b) w) (fed-next (w .database) j p b bs c) (chosen-fed n j p b bs c))
 
-  pub fed-back-outs : (bs : List BackOut) (w : World) → Passed capacity lent (w .nucleus) (w .journal) → Chosen bs (w .journal)
+  pub fed-back-outs : (bs : List BackOut) (w : World) → InWords (w .database) (w .journal) → Chosen bs (w .journal)
       → run capacity (map bt bs) w .journal ≡ struck-all bs (w .journal)
-  unfolding run
+  unfolding run direct-call
   fed-back-outs [] w p c = refl
   fed-back-outs (b ∷ bs) w p c =
-      let n = w .nucleus in
+      let n = in-words capacity (w .database) in
       let j = w .journal in
-      fed-back-outs bs (called capacity (bt b) w) (passed-fed n j p b bs c) (chosen-fed n j p b bs c) ∙ ap (struck-all bs) (struck-bt n j p b bs c)
+      fed-back-outs bs (called capacity (bt b) w) (fed-next (w .database) j p b bs c) (chosen-fed n j p b bs c) ∙ ap (struck-all bs) (struck-bt n j p b bs c)

@@ -136,7 +136,7 @@ module _ (r : Request) (n : Nucleus) (s : DefinitionShape (definition-of n)) (v 
       any-sift (λ j. is-unique (field-at (file r n) j .option)) (λ j. judges j && taken-at j) (numbers (field-count (file r n)) 0)
       ∙ any-agree _ _ field-test (numbers (field-count (file r n)) 0) ∙ rest-fails _ _ brings (a .unique)
 
-  module _ (lent : Lent) where
+  module _ (lent : Lent ℕ) where
     new-free : one-of bringing-values (r .command) ≡ true → machine.taken (ground-of lent n) u k change (some new) (seen lent n) ≡ false
     new-free brings =
         taken-is d s v (n .store) (made .store-room) k home (updates d) (lent .store) change new (rw (t .found) at (new-width r n s (made .store-room) t)) u (n .queue) (n .images) (n .state .count) nobody-else

@@ -37,7 +37,7 @@ use Rattle.history.specs.Sizes.{sized-put, sized-first-change}
 use Rattle.history.specs.Changes.{Aim, slot-is}
 
 -- ---- what is asked of a hold: the caller's entry is in the queue, and nothing else has changed
-pub record HeldHere (capacity : ℕ) (lent : Lent) (r : Request) (n : Nucleus) (isn : ℕ) : Type 0 where
+pub record HeldHere (capacity : ℕ) (lent : Lent ℕ) (r : Request) (n : Nucleus) (isn : ℕ) : Type 0 where
   pub at : ℕ
   pub entry : Entry
   pub found : holder-of r (held r isn n) isn ≡ Held at entry
@@ -67,7 +67,7 @@ pub users-same : (p : ℕ → Bool) (es fs : List Entry) → map whose es ≡ ma
 users-same p es fs h = sym (all-over whose (λ t. p (t .0)) es) ∙ ap (all (λ t. p (t .0))) h ∙ all-over whose (λ t. p (t .0)) fs
 
 -- ---- the image of an entry that is found
-module _ (capacity : ℕ) (lent : Lent) (r : Request) (h : Nucleus) (s : Sized capacity lent (definition-of h) (h .store) (h .queue) (h .images) (h .state .count))
+module _ (capacity : ℕ) (lent : Lent ℕ) (r : Request) (h : Nucleus) (s : Sized capacity lent (definition-of h) (h .store) (h .queue) (h .images) (h .state .count))
     (i isn at : ℕ) (e : Entry) (here : place (definition-of h) (r .call .file) ≡ found-at.At i) (small : isn < isn-bound) (found-here : holder-of r h isn ≡ Held at e) where
   abbrev d : Definition
   d = definition-of h
@@ -91,7 +91,7 @@ module _ (capacity : ℕ) (lent : Lent) (r : Request) (h : Nucleus) (s : Sized c
   whose-imaged = first-change-same (h .queue) (h .state .count) at (record-at r h isn) inside
 
 -- ---- the nucleus `m` that a change of the target's slot to `x` leaves
-pub record Changed (capacity : ℕ) (lent : Lent) (r : Request) (n : Nucleus) (x : Slot) (m : Nucleus) : Type 0 where
+pub record Changed (capacity : ℕ) (lent : Lent ℕ) (r : Request) (n : Nucleus) (x : Slot) (m : Nucleus) : Type 0 where
   pub definition : definition-of m ≡ definition-of n
   pub clock : m .state .clock ≡ held r (target-isn r n) n .state .clock
   pub users : m .state .users ≡ held r (target-isn r n) n .state .users
@@ -105,7 +105,7 @@ pub record Changed (capacity : ℕ) (lent : Lent) (r : Request) (n : Nucleus) (x
   pub sized : Sized capacity lent (definition-of n) (m .store) (m .queue) (m .images) (m .state .count)
   pub holds-same : map whose (entries-of m) ≡ map whose (entries-of (held r (target-isn r n) n))
 
-module _ (capacity : ℕ) (lent : Lent) (r : Request) (n : Nucleus) (t : Aim r n) (w : HeldHere capacity lent r n (target-isn r n)) where
+module _ (capacity : ℕ) (lent : Lent ℕ) (r : Request) (n : Nucleus) (t : Aim r n) (w : HeldHere capacity lent r n (target-isn r n)) where
   abbrev isn : ℕ
   isn = target-isn r n
 

@@ -33,7 +33,7 @@ use Rattle.history.specs.ChangesLogged.{update-of, slot-of}
 use Rattle.history.specs.ChangesAllowed.{file-update, holds-record, machine-applied, change-allowed}
 use Rattle.history.specs.ChangesEffect.{HeldHere, Changed, users-same}
 
-module _ (lent : Lent) (n : Nucleus) (j : Journal) (r : Request) (p : Passed (r .capacity) lent n j) (s : Serving (r .call .user) n) (a : Accepted r n) (c : Changes r) where
+module _ (lent : Lent ℕ) (n : Nucleus) (j : Journal) (r : Request) (p : Passed (r .capacity) lent n j) (s : Serving (r .call .user) n) (a : Accepted r n) (c : Changes r) where
   abbrev capacity : ℕ
   capacity = r .capacity
 

@@ -35,7 +35,7 @@ use Rattle.history.specs.QueueMoves.{entries-removed}
 use Rattle.history.specs.Logs.{logged-end, logged-back-out}
 
 -- ---- laws of the machine's ground, of a sized nucleus
-pub laws-of : (capacity : ℕ) (lent : Lent) (n : Nucleus) → Sized capacity lent (definition-of n) (n .store) (n .queue) (n .images) (n .state .count) → Laws (ground-of lent n)
+pub laws-of : (capacity : ℕ) (lent : Lent ℕ) (n : Nucleus) → Sized capacity lent (definition-of n) (n .store) (n .queue) (n .images) (n .state .count) → Laws (ground-of lent n)
 laws-of capacity lent n s = laws (definition-of n) (s .shape) (s .valid) (updates (definition-of n)) (update-laws (definition-of n) (s .shape) (s .valid)) (lent .store)
 
 -- ---- the users, where one of them ends his transaction
@@ -85,7 +85,7 @@ module _ (clock : ℕ) (us : List User) (u : ℕ) (least : 1 ≤ u) (most : u �
     }
 
 -- ---- of the nucleus
-module _ (capacity : ℕ) (lent : Lent) (n : Nucleus) (j : Journal) (k : Kept capacity lent n j) (u : ℕ) (least : 1 ≤ u) (most : u ≤ max-users) where
+module _ (capacity : ℕ) (lent : Lent ℕ) (n : Nucleus) (j : Journal) (k : Kept capacity lent n j) (u : ℕ) (least : 1 ≤ u) (most : u ≤ max-users) where
   abbrev d : Definition
   d = definition-of n
 

@@ -97,7 +97,7 @@ module _ (n : Nucleus) (capacity : ℕ) (made : MadeIn capacity n) where
   other-seen u file isn small =
       other-passes (definition-of n) (n .queue) (n .images) (n .state .count) (made .single) file isn small u ∙ passes-other u (holder (entries-of n) file isn)
 
-  pub hold-allowed : (lent : Lent) (u file isn : ℕ) → isn < isn-bound → other-holds u (holder (entries-of n) file isn) ≡ false
+  pub hold-allowed : (lent : Lent ℕ) (u file isn : ℕ) → isn < isn-bound → other-holds u (holder (entries-of n) file isn) ≡ false
       → machine.allowed (ground-of lent n) (machine.hold u (key file isn)) (seen lent n) ≡ true
   unfolding machine.allowed
   hold-allowed lent u file isn small mine = rw (other-seen u file isn small ∙ mine)

@@ -70,7 +70,7 @@ holdable-at r n a holds-isn t =
       room = λ new. leb-false (r .capacity) (n .state .count) (rest-fails (new-entry r n) _ (rw (holds-isn, found, new)) (a .room));
     }
 
-module _ (capacity : ℕ) (lent : Lent) (n : Nucleus) (j : Journal) (k : Kept capacity lent n j) (r : Request) (isn : ℕ)
+module _ (capacity : ℕ) (lent : Lent ℕ) (n : Nucleus) (j : Journal) (k : Kept capacity lent n j) (r : Request) (isn : ℕ)
     (s : Serving (r .call .user) n) (h : Holdable capacity r isn n) where
   abbrev u : ℕ
   u = r .call .user

@@ -60,7 +60,7 @@ assigned-set (a ∷ isns) (f ∷ fs) zero isn h m = rw (le-leb isn (f .«max_isn
 assigned-set (a ∷ isns) (f ∷ fs) (suc i) isn h m =
     rw (and-left (leb a (f .«max_isn»)) (assigned-made isns fs) h) (assigned-set isns fs i isn (and-right (leb a (f .«max_isn»)) (assigned-made isns fs) h) m)
 
-module _ (capacity : ℕ) (lent : Lent) (n : Nucleus) (j : Journal) (k : Kept capacity lent n j) where
+module _ (capacity : ℕ) (lent : Lent ℕ) (n : Nucleus) (j : Journal) (k : Kept capacity lent n j) where
   module _ (u : ℕ) (least : 1 ≤ u) (most : u ≤ max-users) (x : User) (sound : user-sound (n .state .clock) x ≡ true) (same : is-active x ≡ is-active (user-of n u)) where
     -- a user becomes another value; he stays in his transaction, or out of one
     pub kept-user : Kept capacity lent (with-state (with-user u x (n .state)) n) (with-member u (member-of x) j)

@@ -33,10 +33,10 @@ abbrev pub definition-of : Nucleus → Definition
 definition-of n = n .state .definition
 
 -- over the store as it was lent at set-up
-abbrev pub ground-of : Lent → Nucleus → Ground
+abbrev pub ground-of : Lent ℕ → Nucleus → Ground
 ground-of lent n = ground (definition-of n) (updates (definition-of n)) (lent .store)
 
-abbrev pub seen : (lent : Lent) (n : Nucleus) → Machine (ground-of lent n)
+abbrev pub seen : (lent : Lent ℕ) (n : Nucleus) → Machine (ground-of lent n)
 seen lent n = record { store = n .store; queue = queue-of (definition-of n) (n .queue) (n .images) (n .state .count) }
 
 -- ---- users
@@ -67,7 +67,7 @@ change-sound us c = ltb (c .isn) isn-bound && (not (c .uncommitted) || active-in
 
 -- ---- all of it, by what it speaks of
 -- the table that set-up read, and the store, the queue and the images that were lent for it
-pub record Sized (capacity : ℕ) (lent : Lent) (d : Definition) (store queue images : List ℕ) (count : ℕ) : Type 0 where
+pub record Sized (capacity : ℕ) (lent : Lent ℕ) (d : Definition) (store queue images : List ℕ) (count : ℕ) : Type 0 where
   pub same-table : d ≡ lent .definition
   pub shape : DefinitionShape d
   pub valid : validity.valid d ≡ true
@@ -87,7 +87,7 @@ pub record Told (clock : ℕ) (us : List User) (j : Journal) : Type 0 where
   pub same-members : j .members ≡ map member-of us
   pub changes-sound : all (change-sound us) (j .changes) ≡ true
 
-module _ (capacity : ℕ) (lent : Lent) where
+module _ (capacity : ℕ) (lent : Lent ℕ) where
   pub record Kept (n : Nucleus) (j : Journal) : Type 0 where
     pub sized : Sized capacity lent (definition-of n) (n .store) (n .queue) (n .images) (n .state .count)
     pub people : People (n .state .clock) (n .state .users) (entries-of n)

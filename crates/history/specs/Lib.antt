@@ -23,6 +23,7 @@ pub mod ChangesAllowed
 pub mod Changing
 pub mod Serving
 pub mod Stepping
+pub mod EntryLists
 pub mod Resting
 pub mod Records
 pub mod BackingOut

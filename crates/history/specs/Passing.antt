@@ -19,7 +19,7 @@ use Rattle.history.specs.People.{active-sound, sound-idle, user-own, use
 use Rattle.history.specs.Keeping.{kept-like, kept-clock}
 use Rattle.history.specs.Ends.{kept-backed-out}
 
-module _ (capacity : ℕ) (lent : Lent) where
+module _ (capacity : ℕ) (lent : Lent ℕ) where
   module _ (n : Nucleus) (j : Journal) (k : Kept capacity lent n j) where
     pub user-known : (u : ℕ) → user-sound (n .state .clock) (user-of n u) ≡ true
     user-known u = all-getD (user-sound (n .state .clock)) (n .state .users) (u - 1) fresh-user (k .people .users-sound) refl

@@ -56,7 +56,7 @@ module _ (n : Nucleus) (rested : Rested n) where
       go true = rested
       go false = rested-set (r .call .user) (started clock (user-of n (r .call .user))) (started-quiet (r .call .user))
 
-module _ (capacity : ℕ) (lent : Lent) (n : Nucleus) (j : Journal) (p : Passed capacity lent n j) (r : Request) where
+module _ (capacity : ℕ) (lent : Lent ℕ) (n : Nucleus) (j : Journal) (p : Passed capacity lent n j) (r : Request) where
   abbrev u : ℕ
   u = r .call .user
 

@@ -56,13 +56,13 @@ unique-place f i used unique =
 change-small : (us : List User) (c : Change) → change-sound us c ≡ true → c .isn < isn-bound
 change-small us c h = ltb-true (c .isn) isn-bound (change-isn us c h)
 
-module _ (capacity : ℕ) (lent : Lent) (n : Nucleus) (j : Journal) (k : Kept capacity lent n j) where
+module _ (capacity : ℕ) (lent : Lent ℕ) (n : Nucleus) (j : Journal) (k : Kept capacity lent n j) where
   abbrev d : Definition
   d = definition-of n
 
   -- ---- of an ISN of two bytes
   module _ (file isn : ℕ) (small : isn < isn-bound) where
-    slot-in : get d (n .store) (key file isn) ≡ record-in d n file isn
+    slot-in : get d (n .store) (key file isn) ≡ record-in d (n .store) file isn
     slot-in =
         get-is d (n .store) (k .sized .made .store-room) (key file isn)
         ∙ rw (file-of-key file isn small, isn-of-key file isn small) (go (place d file))
@@ -90,7 +90,7 @@ module _ (capacity : ℕ) (lent : Lent) (n : Nucleus) (j : Journal) (k : Kept ca
         ap (λ y. replay (ground-of lent n) (key file isn) y (logged cs)) (same-change c (change-small (n .state .users) c (and-left (change-sound (n .state .users) c) (all (change-sound (n .state .users)) cs) h)) x)
         ∙ replay-is cs (and-right (change-sound (n .state .users) c) (all (change-sound (n .state .users)) cs) h) _
 
-    same-small : record-in d n file isn ≡ replayed d file isn none (j .changes)
+    same-small : record-in d (n .store) file isn ≡ replayed d file isn none (j .changes)
     same-small =
         sym slot-in ∙ same-slots (ground-of lent n) (laws-of capacity lent n (k .sized)) (seen lent n) (logged (j .changes)) (k .invariant) (key file isn)
         ∙ replay-is (j .changes) (k .told .changes-sound) none
@@ -104,25 +104,25 @@ module _ (capacity : ℕ) (lent : Lent) (n : Nucleus) (j : Journal) (k : Kept ca
         let apart : eqb (c .isn) isn ≡ false = ne-eqb (c .isn) isn (λ e. absurd (omega (arith, e))) in
         rw (apart, and-false (eqb (c .file) file)) (no-change cs (and-right (change-sound (n .state .users) c) (all (change-sound (n .state .users)) cs) h) x)
 
-    none-large : record-in d n file isn ≡ none
+    none-large : record-in d (n .store) file isn ≡ none
     none-large = get-outside (file-found d (place d file)) (part-in d (place d file) (n .store)) isn (λ a b. absurd (omega (arith, b, highest (place d file) refl, large)))
       where
         highest : (x : Found) → place d file ≡ x → file-found d x .«max_isn» < isn-bound
         highest (At i) e = file-shape-at d (k .sized .shape) i (omega (arith, place-found d (k .sized .shape) file i e .0)) .small-max-isn
         highest Nowhere e = omega arith
 
-  pub same-records : SameRecords d n j
+  pub same-records : SameRecords d (n .store) j
   unfolding record-told
   same-records file isn = go (outcome (ltb isn isn-bound))
     where
-      go : Outcome (ltb isn isn-bound) → record-in d n file isn ≡ replayed d file isn none (j .changes)
+      go : Outcome (ltb isn isn-bound) → record-in d (n .store) file isn ≡ replayed d file isn none (j .changes)
       go (holds t) = same-small file isn (ltb-true isn isn-bound t)
       go (fails t) = let large = ltb-false isn isn-bound t in none-large file isn large ∙ sym (no-change file isn large (j .changes) (k .told .changes-sound) none)
 
   -- ---- no unique value twice
   -- where a record is, is an ISN of the table
-  module _ (file isn : ℕ) (a : List ℕ) (there : record-in d n file isn ≡ some a) where
-    some-none : {A : Type 0} → record-in d n file isn ≡ none → A
+  module _ (file isn : ℕ) (a : List ℕ) (there : record-in d (n .store) file isn ≡ some a) where
+    some-none : {A : Type 0} → record-in d (n .store) file isn ≡ none → A
     some-none e = absurd (let z : _≡_ {A = ℕ} 0 1 = cc in omega arith)
 
     there-small : isn < isn-bound
@@ -151,7 +151,7 @@ module _ (capacity : ℕ) (lent : Lent) (n : Nucleus) (j : Journal) (k : Kept ca
     there-key : any (eqb (key file isn)) (keys d) ≡ true
     there-key = keys-known d (k .sized .shape) (k .sized .valid) (key file isn) ∙ there-known
 
-  pub unique-values : UniqueValues d n
+  pub unique-values : UniqueValues d (n .store)
   unique-values file isn other f a b apart one two used unique same =
       let small = there-small file isn a one in
       let small-other = there-small file other b two in

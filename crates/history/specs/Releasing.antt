@@ -20,7 +20,7 @@ use Rattle.history.specs.Sizes.{sized-removed}
 use Rattle.history.specs.Ends.{laws-of}
 use Rattle.history.specs.QueueMoves.{queue-seen, all-removed, seen-release-all, seen-release}
 
-module _ (capacity : ℕ) (lent : Lent) (n : Nucleus) (j : Journal) (k : Kept capacity lent n j) where
+module _ (capacity : ℕ) (lent : Lent ℕ) (n : Nucleus) (j : Journal) (k : Kept capacity lent n j) where
   -- entries go, and the argument of requirement 3 holds of what is left
   kept-removed : (which : Removal) → Invariant (ground-of lent n) (record { store = n .store; queue = queue-seen (removed which n) }) (logged (j .changes)) → Kept capacity lent (removed which n) j
   unfolding removed

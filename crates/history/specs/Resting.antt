@@ -28,7 +28,7 @@ use Rattle.history.specs.Passing.{Passed, user-known, late-as-due}
 use Rattle.history.specs.Standing.{well-made-kept, long-kept}
 use Rattle.history.specs.Performing.{quiet-user}
 
-module _ (capacity : ℕ) (lent : Lent) (n : Nucleus) (j : Journal) (p : Passed capacity lent n j) where
+module _ (capacity : ℕ) (lent : Lent ℕ) (n : Nucleus) (j : Journal) (p : Passed capacity lent n j) where
   -- ---- clock 0
   nucleus-from : (more u : ℕ) → timed-out-from more u n ≡ n
   nucleus-from zero u = refl

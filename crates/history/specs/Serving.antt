@@ -65,11 +65,11 @@ pub record Ready (r : Request) (n : Nucleus) : Type 0 where
   pub access : access-refused (r .command) (r .call) n ≡ false
 
 -- what a call answers and leaves, beside what the journal makes of it
-pub record Served (lent : Lent) (r : Request) (j : Journal) (c : Command) (x : Result) : Type 0 where
+pub record Served (lent : Lent ℕ) (r : Request) (j : Journal) (c : Command) (x : Result) : Type 0 where
   pub passed : Passed (r .capacity) lent (x .nucleus) (log-answered (some c) (r .call) (r .format) (r .buffer) (number (x .answer .response)) (x .answer .isn) j)
   pub not-early : is-early (number (x .answer .response)) ≡ false
 
-module _ (lent : Lent) (n : Nucleus) (j : Journal) (r : Request) (p : Passed (r .capacity) lent n j) (y : Ready r n) (a : Accepted r n) where
+module _ (lent : Lent ℕ) (n : Nucleus) (j : Journal) (r : Request) (p : Passed (r .capacity) lent n j) (y : Ready r n) (a : Accepted r n) where
   abbrev u : ℕ
   u = r .call .user
 

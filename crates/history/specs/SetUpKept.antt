@@ -69,7 +69,7 @@ none-assigned zero (f ∷ fs) = refl
 none-assigned (suc n) (f ∷ fs) = rw (le-leb 0 (f .«max_isn») (omega arith)) (none-assigned n fs)
 
 module _ (capacity : ℕ) (store queue images : List ℕ) where
-  abbrev lent : Definition → Lent
+  abbrev lent : Definition → Lent ℕ
   lent d = record { definition = d; store = store; queue = queue; images = images }
 
   fresh-alike : (d : Definition) → DefinitionShape d → store-size d ≤ length store → Alike (store-size d) (fresh-store d store) store

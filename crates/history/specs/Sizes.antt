@@ -36,10 +36,10 @@ use Rattle.claim.specs.Lent.{Lent, Alike, Past}
 use Rattle.history.specs.Kept.{Sized}
 
 -- ---- alike past a size
-pub alike-self : (size : ℕ) (l : List ℕ) → Alike size l l
+pub alike-self : {A : Type 0} (size : ℕ) (l : List A) → Alike size l l
 alike-self size l = record { same-length = refl; same-past = refl }
 
-alike-then : (size : ℕ) (a b c : List ℕ) → Alike size a b → Alike size b c → Alike size a c
+pub alike-then : {A : Type 0} (size : ℕ) (a b c : List A) → Alike size a b → Alike size b c → Alike size a c
 alike-then size a b c x y = record { same-length = x .same-length ∙ y .same-length; same-past = x .same-past ∙ y .same-past }
 
 alike-set : (size : ℕ) (l : List ℕ) (i x : ℕ) → i < size → Alike size (set l i x) l
@@ -57,7 +57,7 @@ alike-closed n size bs l room inside = record {
   same-past = closed-rest n bs l room size (omega (arith, mul-le-mul-right n (set-count-most bs)));
 }
 
-module _ (capacity : ℕ) (lent : Lent) (d : Definition) (store queue images : List ℕ) (count : ℕ) (s : Sized capacity lent d store queue images count) where
+module _ (capacity : ℕ) (lent : Lent ℕ) (d : Definition) (store queue images : List ℕ) (count : ℕ) (s : Sized capacity lent d store queue images count) where
   abbrev width : ℕ
   width = image-length d
 

@@ -36,7 +36,7 @@ made-of-sound clock u h = go (outcome (is-active u))
     go (holds a) = let s = active-sound clock u h a in rw (a, s .session, le-leb (u .transaction .begun) clock (s .begun))
     go (fails a) = rw a
 
-module _ (capacity : ℕ) (lent : Lent) (n : Nucleus) (j : Journal) (k : Kept capacity lent n j) where
+module _ (capacity : ℕ) (lent : Lent ℕ) (n : Nucleus) (j : Journal) (k : Kept capacity lent n j) where
   entries-made : all (entry-made (n .state)) (entries-of n) ≡ true
   entries-made = all-index (entry-made (n .state)) no-entry (entries-of n) here
     where

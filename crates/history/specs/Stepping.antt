@@ -42,7 +42,7 @@ abbrev served-by : Request → Admission → Result
 served-by r a = serve a (r .capacity) (r .call) (r .format) (r .buffer)
 
 -- ---- the rows of 29 and after, and the effect
-module _ (lent : Lent) (n : Nucleus) (j : Journal) (r : Request) (p : Passed (r .capacity) lent n j) where
+module _ (lent : Lent ℕ) (n : Nucleus) (j : Journal) (r : Request) (p : Passed (r .capacity) lent n j) where
   -- a refusal that is neither 0 nor 9 tells the journal nothing but the clock
   refused-plain : (c : Response) → plain c ≡ true → Served lent r j (r .command) (refusal (r .buffer) n c)
   refused-plain c h =
@@ -68,7 +68,7 @@ module _ (lent : Lent) (n : Nucleus) (j : Journal) (r : Request) (p : Passed (r 
       go (fails t) = rw t (performed (ready t))
 
 -- ---- a user in no transaction has nothing to strike
-module _ (capacity : ℕ) (lent : Lent) (n : Nucleus) (j : Journal) (k : Kept capacity lent n j) (u : ℕ) (idle : is-active (user-of n u) ≡ false) where
+module _ (capacity : ℕ) (lent : Lent ℕ) (n : Nucleus) (j : Journal) (k : Kept capacity lent n j) (u : ℕ) (idle : is-active (user-of n u) ≡ false) where
   not-struck : (c : Change) → change-sound (n .state .users) c ≡ true → not (strikes u c) ≡ true
   not-struck c h = go (outcome (c .uncommitted)) (outcome (eqb (c .user) u))
     where
@@ -93,7 +93,7 @@ module _ (capacity : ℕ) (lent : Lent) (n : Nucleus) (j : Journal) (k : Kept ca
       changes = sift-all (λ c. not (strikes u c)) (j .changes) (all-implies (change-sound (n .state .users)) (λ c. not (strikes u c)) not-struck (j .changes) (k .told .changes-sound))
 
 -- ---- the rows of 9, and the session that opens
-module _ (lent : Lent) (n : Nucleus) (j : Journal) (r : Request) (p : Passed (r .capacity) lent n j)
+module _ (lent : Lent ℕ) (n : Nucleus) (j : Journal) (r : Request) (p : Passed (r .capacity) lent n j)
     (least : 1 ≤ r .call .user) (most : r .call .user ≤ max-users) where
   abbrev u : ℕ
   u = r .call .user
@@ -205,7 +205,7 @@ module _ (lent : Lent) (n : Nucleus) (j : Journal) (r : Request) (p : Passed (r 
       go (fails o) (fails e) = rw (o, e) (served-session lent m j r passed-open (ready o (λ ends. rw ends at e)))
 
 -- ---- a call
-pub record Stepped (capacity : ℕ) (lent : Lent) (call : Call) (format buffer : List ℕ) (j : Journal) (x : Result) : Type 0 where
+pub record Stepped (capacity : ℕ) (lent : Lent ℕ) (call : Call) (format buffer : List ℕ) (j : Journal) (x : Result) : Type 0 where
   pub passed : Passed capacity lent (x .nucleus) (fed call format buffer (number (x .answer .response)) (x .answer .isn) j)
   pub usable : unusable (number (x .answer .response)) ≡ false
 
@@ -218,7 +218,7 @@ first-three false false false more h = refl
 early-usable : (response : ℕ) → is-early response ≡ false → unusable response ≡ false
 early-usable response h = first-three (eqb response 10) (eqb response 11) (eqb response 12) _ h
 
-module _ (capacity : ℕ) (lent : Lent) (n : Nucleus) (j : Journal) (p : Passed capacity lent n j) (call : Call) (format buffer : List ℕ) where
+module _ (capacity : ℕ) (lent : Lent ℕ) (n : Nucleus) (j : Journal) (p : Passed capacity lent n j) (call : Call) (format buffer : List ℕ) where
   -- 22 and 72: all is as it was
   refused-first : (c : Response) → is-early (number c) ≡ true → unusable (number c) ≡ false → Stepped capacity lent call format buffer j (refusal buffer n c)
   unfolding fed
