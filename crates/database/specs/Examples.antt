@@ -1,8 +1,7 @@
 -- Worked examples: how many entries a call works on, and their words. Assumes nothing.
-use Prim.Native.Nat.{ℕ}
 use mathlib.Core.Path.{_≡_, refl}
 use mathlib.Core.Bool.{true, false}
-use mathlib.Core.List.{List, [], _∷_, map}
+use mathlib.Core.List.{[], _∷_}
 use Rattle.entries.specs.Entries.{pack-of, unpack-of}
 use Rattle.entries.specs.declared.Entry.{Entry}
 use Rattle.database.specs.Database.{fitting, words, with-words}

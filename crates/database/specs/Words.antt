@@ -8,7 +8,7 @@ use mathlib.Core.List.{List, [], _∷_, map}
 use lib.Dec.{ltb}
 use lib.ListN.{length, take, drop, length-map, length-append, length-drop}
 use lib.Seq.{take-at, drop-at, take-take}
-use borrow.Author.Tests.{ltb-false, le-ltb}
+use borrow.Author.Tests.{le-ltb}
 use Rattle.lists.specs.Tests.{Outcome, holds, fails, outcome}
 use Rattle.lists.specs.Folds.{Each}
 use Rattle.lists.specs.Maps.{take-map}
@@ -16,19 +16,10 @@ use Rattle.entries.specs.Entries.{pack-of, unpack-of, entries}
 use Rattle.entries.specs.Laws.{Shape, unpack-pack, unpack-shape}
 use Rattle.entries.specs.declared.Entry.{Entry}
 use Rattle.nucleus.specs.Nucleus.{max-capacity, entries-of}
+use Rattle.database.specs.Laws.{fitting-size}
 use Rattle.database.specs.Database.{Database, fitting, fits, words, in-words, with-words}
 
--- ---- how many fit
-pub fitting-most : (capacity size : ℕ) → fitting capacity size ≤ size
-unfolding fitting
-fitting-most capacity size = go (outcome (ltb max-capacity capacity)) (outcome (ltb size capacity))
-  where
-    go : Outcome (ltb max-capacity capacity) → Outcome (ltb size capacity) → fitting capacity size ≤ size
-    go (holds a) b = rw a (omega arith)
-    go (fails a) (holds b) = rw (a, b) (omega arith)
-    go (fails a) (fails b) = rw (a, b) (ltb-false size capacity b)
-
--- all of H, or none
+-- ---- how many fit: all of H, or none
 pub fitting-all : (capacity size : ℕ) → 1 ≤ fitting capacity size → fitting capacity size ≡ capacity
 unfolding fitting
 fitting-all capacity size = go (outcome (ltb max-capacity capacity)) (outcome (ltb size capacity))
@@ -83,7 +74,7 @@ module _ (capacity : ℕ) (queue : List Entry) (ws : List ℕ) (whole : length w
   entry-count = length-map ws unpack-of ∙ whole
 
   pub same-size : length (with-words n ws queue) ≡ length queue
-  same-size = simp (length-append, length-drop, entry-count) (omega (arith, fitting-most capacity (length queue)))
+  same-size = simp (length-append, length-drop, entry-count) (omega (arith, fitting-size capacity (length queue)))
 
   -- entries past those are as they were
   pub same-behind : drop n (with-words n ws queue) ≡ drop n queue

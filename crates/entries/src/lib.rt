@@ -4,6 +4,7 @@ ghost use Prim.Native.Nat.{_<_};
 ghost use Rattle.entries.specs.Entries.{bit, pack-of, unpack-of};
 
 // Who holds an ISN of a file, and whether that changed it.
+#[repr(C)]
 pub struct Entry {
     pub user: u8,
     pub file: u8,

@@ -19,7 +19,8 @@ use Rattle.nucleus.specs.Step.{step, set-up}
 use Rattle.nucleus.specs.declared.Call.{Call}
 use Rattle.nucleus.specs.declared.Response.the-variants.{Good}
 use Rattle.database.specs.Database.{Database, fits, words, in-words, with-words, direct-call, set-up-database}
-use Rattle.database.specs.Words.{fitting-most, fitting-all, fitting-whole, renewed, length-renewed, entries-renewed, same-size, same-behind, words-again}
+use Rattle.database.specs.Laws.{fitting-size}
+use Rattle.database.specs.Words.{fitting-all, fitting-whole, renewed, length-renewed, entries-renewed, same-size, same-behind, words-again}
 use Rattle.reading.specs.Grammar.{read-table}
 use Rattle.claim.specs.Journal.{Journal, new-journal, fed}
 use Rattle.claim.specs.Lent.{Lent, Alike}
@@ -85,7 +86,7 @@ module _ (capacity : ℕ) (lent : Lent ℕ) (b : Database) (j : Journal) (p : Pa
   length-before : length before ≡ size
   length-before =
       length-map (take size (b .queue)) pack-of ∙ length-take size (b .queue)
-      ∙ omega (arith, fitting-most capacity (length (b .queue)))
+      ∙ omega (arith, fitting-size capacity (length (b .queue)))
 
   all-fit : size ≡ capacity
   all-fit =
@@ -182,7 +183,7 @@ module _ (capacity : ℕ) (table store : List ℕ) (queue : List Entry) (images 
     whole,
     length-map (take (fits capacity queue) queue) pack-of,
     length-take (fits capacity queue) queue,
-    fitting-most capacity (length queue),
+    fitting-size capacity (length queue),
   )
 
   pub passed-set-up : Passed capacity lent-words (in-words capacity (set-up-database capacity store queue images table .database)) new-journal

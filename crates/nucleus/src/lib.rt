@@ -93,12 +93,14 @@ pub struct Answer {
 }
 
 // All that is kept for a user's transaction: whether he is in one, and the clock at which it began.
+#[repr(C)]
 pub struct Transaction {
     pub begun: u32,
     pub active: bool,
 }
 
 // A user's session and transaction. What belongs to an ended session or transaction keeps its last values and decides nothing.
+#[repr(C)]
 pub struct User {
     pub sequence: u32,
     pub transaction: Transaction,
@@ -137,6 +139,7 @@ impl User {
 }
 
 // A user's ET data: the first `length` bytes.
+#[repr(C)]
 pub struct EtData {
     pub length: u8,
     pub bytes: [u8; MAX_ET_DATA],

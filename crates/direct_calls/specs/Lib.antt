@@ -1,0 +1,2 @@
+pub mod DirectCalls
+pub mod Laws

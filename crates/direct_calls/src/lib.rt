@@ -1,0 +1,99 @@
+// One call with the hold queue as a caller has it, a lent list of entries. The call itself works on words, one for each entry: the entries go out
+// into words, and what the call leaves of these comes back.
+ghost use mathlib.Core.Path.{_≡_};
+ghost use Prim.Native.Nat.{_≤_};
+ghost use lib.ListN.{length};
+ghost use Rattle.database.specs.Database.{database, fitting, reply, direct-call};
+ghost use Rattle.nucleus.specs.Nucleus.{nucleus, result};
+ghost use Rattle.direct_calls.specs.DirectCalls.{packed-front, unpacked-front, on-words};
+use calls::Outcome;
+use entries::Entry;
+use nucleus::Call;
+use nucleus::MAX_CAPACITY;
+use nucleus::State;
+
+// The entries that a call works on: the capacity, or none where that is more than a queue may have or than this one has. No call is served then.
+pub fn fitting(capacity: usize, size: usize) -> usize
+    ensures { λ r. ⌜ r ≡ fitting capacity size ⌝ }
+{
+    if MAX_CAPACITY < capacity {
+        return 0;
+    }
+    if size < capacity {
+        return 0;
+    }
+    capacity
+}
+
+// The first n entries, as words.
+fn words_out(queue: &[Entry], words: &mut [u64], n: usize)
+    requires { ⌜ (n ≤ length (now queue)) × (n ≤ length (now words)) ⌝ }
+    ensures { λ _. ⌜ now (words .exit) ≡ packed-front n (now (queue .entry)) (now (words .entry)) ⌝ }
+{
+    let mut i = 0;
+    while i < n {
+        words[i] = entries::pack(queue[i]);
+        i += 1;
+    }
+}
+
+// The first n words, as entries.
+fn words_in(queue: &mut [Entry], words: &[u64], n: usize)
+    requires { ⌜ (n ≤ length (now queue)) × (n ≤ length (now words)) ⌝ }
+    ensures { λ _. ⌜ now (queue .exit) ≡ unpacked-front n (now (words .entry)) (now (queue .entry)) ⌝ }
+{
+    let mut i = 0;
+    while i < n {
+        queue[i] = entries::unpack(words[i]);
+        i += 1;
+    }
+}
+
+// The call on the first n words.
+fn on_words(
+    state: State,
+    n: usize,
+    call: Call,
+    store: &mut [u8],
+    words: &mut [u64],
+    images: &mut [u8],
+    format: &[u8],
+    buffer: &mut [u8],
+) -> Outcome
+    ensures { λ r. ⌜ result (r .answer) (nucleus (r .state) (now (store .exit)) (now (words .exit)) (now (images .exit))) (now (buffer .exit))
+        ≡ on-words n call (now (format .entry)) (now (buffer .entry)) (nucleus state (now (store .entry)) (now (words .entry)) (now (images .entry))) ⌝ }
+{
+    let end = slices::least(n, words.len());
+    calls::step(
+        state,
+        n,
+        call,
+        store,
+        &mut words[..end],
+        images,
+        format,
+        buffer,
+    )
+}
+
+// One call, for any state, capacity, call and buffers.
+pub fn direct_call(
+    state: State,
+    capacity: usize,
+    call: Call,
+    store: &mut [u8],
+    queue: &mut [Entry],
+    images: &mut [u8],
+    format: &[u8],
+    buffer: &mut [u8],
+) -> Outcome
+    ensures { λ r. ⌜ reply (r .answer) (database (r .state) (now (store .exit)) (now (queue .exit)) (now (images .exit))) (now (buffer .exit))
+        ≡ direct-call capacity call (now (format .entry)) (now (buffer .entry)) (database state (now (store .entry)) (now (queue .entry)) (now (images .entry))) ⌝ }
+{
+    let n = fitting(capacity, queue.len());
+    let mut words = [0u64; MAX_CAPACITY];
+    words_out(queue, &mut words, n);
+    let r = on_words(state, n, call, store, &mut words, images, format, buffer);
+    words_in(queue, &words, n);
+    r
+}
