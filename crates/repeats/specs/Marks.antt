@@ -19,7 +19,7 @@ use Rattle.entries.specs.declared.Entry.{Entry}
 
 -- the place of an entry's mark
 unfoldable pub key : Entry → ℕ
-key e = e .file % 16 * 4096 + e .isn % 4096
+key e = (e .file * 259 + e .isn) % 4096
 
 -- the k-th bit of the table's words
 unfoldable pub marked : List ℕ → ℕ → Bool
@@ -31,7 +31,7 @@ set-mark table k = set table (k / 64) (bitOr (getD table (k / 64) 0) (2 ^ (k % 6
 abbrev pub all-marked : List ℕ → List Entry → Bool
 all-marked table es = all (λ e. marked table (key e)) es
 
-pub key-small : (e : Entry) → key e < 65536
+pub key-small : (e : Entry) → key e < 4096
 unfolding key
 key-small e = omega arith
 

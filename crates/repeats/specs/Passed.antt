@@ -28,7 +28,7 @@ module _ (words : List ℕ) (count i : ℕ) (e : Entry) (now : e ≡ unpack-of (
   pub distinct-so-far : distinct alike (entries words i) ≡ true → any (is-of (e .file) (e .isn)) (entries words i) ≡ false → distinct alike (entries words (i + 1)) ≡ true
   distinct-so-far d h = passed ∙ rw (d, h)
 
-  pub marked-so-far : (table : List ℕ) → length table ≡ 1024 → all-marked table (entries words i) ≡ true → all-marked (set-mark table (key e)) (entries words (i + 1)) ≡ true
+  pub marked-so-far : (table : List ℕ) → length table ≡ 64 → all-marked table (entries words i) ≡ true → all-marked (set-mark table (key e)) (entries words (i + 1)) ≡ true
   marked-so-far table l m =
       let small : key e / 64 < length table = omega (arith, key-small e) in
       rw (entries-last words i (omega arith), ← now, all-append (λ x. marked (set-mark table (key e)) (key x)) (entries words i) (e ∷ []), all-marked-kept table (key e) (entries words i) small m, set-mark-here table (key e) small)

@@ -10,22 +10,23 @@ ghost use Rattle.repeats.specs.Repeats.{repeated};
 use entries::Entry;
 use queue::Lookup;
 
-// A bit of a table of 65536 for each file and ISN. Those that a definition can have, files 1 to 16 and ISNs to 4095, have different ones.
+// A bit of a table of 4096 for each file and ISN. Some share one, so a bit that is set says only that it is worth looking; a table with a bit for each
+// would take longer to clear than most queues to pass.
 fn key(e: Entry) -> usize
     ensures { λ r. ⌜ r ≡ key e ⌝ }
 {
-    e.file as usize % 16 * 4096 + e.isn as usize % 4096
+    (e.file as usize * 259 + e.isn as usize) % 4096
 }
 
-fn marked(table: &[u64; 1024], k: usize) -> bool
-    requires { ⌜ k < 65536 ⌝ }
+fn marked(table: &[u64; 64], k: usize) -> bool
+    requires { ⌜ k < 4096 ⌝ }
     ensures { λ r. ⌜ r ≡ marked (now (table .entry)) k ⌝ }
 {
     (table[k / 64] >> (k % 64)) % 2 == 1
 }
 
-fn set_mark(table: &mut [u64; 1024], k: usize)
-    requires { ⌜ k < 65536 ⌝ }
+fn set_mark(table: &mut [u64; 64], k: usize)
+    requires { ⌜ k < 4096 ⌝ }
     ensures { λ _. ⌜ now (table .exit) ≡ set-mark (now (table .entry)) k ⌝ }
 {
     table[k / 64] = table[k / 64] | (1u64 << (k % 64));
@@ -33,7 +34,7 @@ fn set_mark(table: &mut [u64; 1024], k: usize)
 
 // Whether one of the first `count` entries, which are all marked, is of the file and ISN of `e`. It is looked for only where the table has
 // its mark.
-fn held_before(queue: &[u64], count: usize, table: &[u64; 1024], e: Entry) -> bool
+fn held_before(queue: &[u64], count: usize, table: &[u64; 64], e: Entry) -> bool
     requires { ⌜ all-marked (now table) (entries (now queue) count) ≡ true ⌝ }
     ensures { λ r. ⌜ r ≡ any (is-of (e .file) (e .isn)) (entries (now (queue .entry)) count) ⌝ }
 {
@@ -51,7 +52,7 @@ pub fn repeated(queue: &[u64], count: usize) -> bool
     ensures { λ r. ⌜ r ≡ repeated (entries (now (queue .entry)) count) ⌝ }
 {
     let n = slices::least(count, queue.len());
-    let mut table = [0u64; 1024];
+    let mut table = [0u64; 64];
     let mut i: usize = 0;
     while i < n {
         let e = entries::unpack(queue[i]);

@@ -16,7 +16,7 @@ use Rattle.repeats.proofs.repeated.Statement.{statement}
 use Rattle.repeats.proofs.repeated.Tie as tie
 
 abbrev Inv-loop : tie.InvT-loop
-Inv-loop queue count n table₀ i₀ table i = (n ≡ min count (length queue)) × (i ≤ n) × (length table ≡ 1024) × (all-marked table (entries queue i) ≡ true) × (distinct alike (entries queue i) ≡ true)
+Inv-loop queue count n table₀ i₀ table i = (n ≡ min count (length queue)) × (i ≤ n) × (length table ≡ 64) × (all-marked table (entries queue i) ≡ true) × (distinct alike (entries queue i) ≡ true)
 
 abbrev μ-loop : tie.MeasureT-loop
 μ-loop queue count n table₀ i₀ table i = n - i
