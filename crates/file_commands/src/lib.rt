@@ -28,7 +28,7 @@ pub fn on_file(
 {
     match command {
         Command::Hi => holding::hi(call, most, clock, share, f, part, queue),
-        Command::Ri => ending::ri(call, share, queue, images, width),
+        Command::Ri => releasing::ri(call, share, queue, images, width),
         Command::L1 => retrieval::l1(call, share, f, part, format, buffer),
         Command::L4 => { retrieval::l4(call, most, clock, share, f, part, queue, format, buffer) }
         Command::A1 => changing::a1(

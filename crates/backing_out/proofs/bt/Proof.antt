@@ -2,8 +2,8 @@
 -- Assumes nothing.
 use Rattle.removal.specs.Laws.{remove-count-most}
 use borrow.Author.Needs.{needs}
-use Rattle.ending.proofs.bt.Statement.{statement}
-use Rattle.ending.proofs.bt.Tie as tie
+use Rattle.backing_out.proofs.bt.Statement.{statement}
+use Rattle.backing_out.proofs.bt.Tie as tie
 
 back-out-requires : tie.Need-back-out-requires
 back-out-requires c κs = search needs

@@ -3,8 +3,8 @@
 use borrow.Author.Tests.{eq-eqb, ne-eqb}
 use Rattle.shares.specs.Chains.{ri-cause}
 use borrow.Author.Needs.{needs}
-use Rattle.ending.proofs.ri.Statement.{statement}
-use Rattle.ending.proofs.ri.Tie as tie
+use Rattle.releasing.proofs.ri.Statement.{statement}
+use Rattle.releasing.proofs.ri.Tie as tie
 
 dropped-requires : tie.Need-dropped-requires
 dropped-requires c κs = search needs

@@ -2,8 +2,8 @@
 -- Assumes nothing.
 use Rattle.removal.specs.Laws.{remove-count-most}
 use borrow.Author.Needs.{needs}
-use Rattle.ending.proofs.dropped.Statement.{statement}
-use Rattle.ending.proofs.dropped.Tie as tie
+use Rattle.releasing.proofs.dropped.Statement.{statement}
+use Rattle.releasing.proofs.dropped.Tie as tie
 
 let-go-requires : tie.Need-let-go-requires
 let-go-requires c κs = search needs
