@@ -1,7 +1,7 @@
 -- `on_session` meets its contract.
 -- Assumes nothing.
 use Rattle.nucleus.specs.Commands.{on-session}
-use Rattle.codes.proofs.Groups.{in-group, not-in-group}
+use Rattle.options.proofs.Groups.{in-group, not-in-group}
 use Rattle.access.proofs.on_session.Statement.{statement}
 use Rattle.access.proofs.on_session.Tie as tie
 

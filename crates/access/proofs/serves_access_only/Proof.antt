@@ -1,7 +1,7 @@
 -- `serves_access_only` meets its contract.
 -- Assumes nothing.
 use Rattle.nucleus.specs.Commands.{serving-access-only}
-use Rattle.codes.proofs.Groups.{in-group, not-in-group}
+use Rattle.options.proofs.Groups.{in-group, not-in-group}
 use Rattle.access.proofs.serves_access_only.Statement.{statement}
 use Rattle.access.proofs.serves_access_only.Tie as tie
 

@@ -2,8 +2,8 @@
 -- Assumes nothing.
 use mathlib.Core.Path.{sym, _∙_}
 use borrow.Author.Needs.{needs}
-use Rattle.codes.proofs.seeks.Statement.{statement}
-use Rattle.codes.proofs.seeks.Tie as tie
+use Rattle.options.proofs.seeks.Statement.{statement}
+use Rattle.options.proofs.seeks.Tie as tie
 
 reads-values-requires : tie.Need-reads-values-requires
 reads-values-requires c κs = search needs

@@ -1,9 +1,9 @@
 -- `reads_values` meets its contract.
 -- Assumes nothing.
 use Rattle.nucleus.specs.Commands.{reading-values}
-use Rattle.codes.proofs.Groups.{in-group, not-in-group}
-use Rattle.codes.proofs.reads_values.Statement.{statement}
-use Rattle.codes.proofs.reads_values.Tie as tie
+use Rattle.options.proofs.Groups.{in-group, not-in-group}
+use Rattle.options.proofs.reads_values.Statement.{statement}
+use Rattle.options.proofs.reads_values.Tie as tie
 
 returns : tie.Need-returns
 returns c = in-group reading-values (c .before .args .command) (c .match .keys1)

@@ -1,10 +1,10 @@
 -- `opens` meets its contract.
 -- Assumes nothing.
 use borrow.Author.Needs.{needs}
-use Rattle.codes.specs.Codes.{opening-only}
-use Rattle.codes.proofs.Groups.{in-group, not-in-group}
-use Rattle.codes.proofs.opens.Statement.{statement}
-use Rattle.codes.proofs.opens.Tie as tie
+use Rattle.options.specs.Options.{opening-only}
+use Rattle.options.proofs.Groups.{in-group, not-in-group}
+use Rattle.options.proofs.opens.Statement.{statement}
+use Rattle.options.proofs.opens.Tie as tie
 
 enum-told : tie.Need-enum-told
 enum-told c = search needs

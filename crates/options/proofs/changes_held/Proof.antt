@@ -1,9 +1,9 @@
 -- `changes_held` meets its contract.
 -- Assumes nothing.
 use Rattle.nucleus.specs.Commands.{changing-held}
-use Rattle.codes.proofs.Groups.{in-group, not-in-group}
-use Rattle.codes.proofs.changes_held.Statement.{statement}
-use Rattle.codes.proofs.changes_held.Tie as tie
+use Rattle.options.proofs.Groups.{in-group, not-in-group}
+use Rattle.options.proofs.changes_held.Statement.{statement}
+use Rattle.options.proofs.changes_held.Tie as tie
 
 returns : tie.Need-returns
 returns c = in-group changing-held (c .before .args .command) (c .match .keys1)

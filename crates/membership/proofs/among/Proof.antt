@@ -9,8 +9,8 @@ use lib.Dec.{eqb}
 use lib.ListN.{length, drop, drop-of-length-le}
 use Rattle.lists.specs.Folds.{any}
 use Rattle.lists.specs.Rest.{drop-more}
-use Rattle.file_validity.proofs.among.Statement.{statement}
-use Rattle.file_validity.proofs.among.Tie as tie
+use Rattle.membership.proofs.among.Statement.{statement}
+use Rattle.membership.proofs.among.Tie as tie
 
 abbrev Inv-loop : tie.InvT-loop
 Inv-loop numbers number i₀ i = (i ≤ length numbers) × (any (eqb number) numbers ≡ any (eqb number) (drop i numbers))

@@ -5,8 +5,8 @@ use mathlib.Core.Bool.{or-false}
 use borrow.Author.Needs.{needs}
 use borrow.Author.Tests.{ne-eqb}
 use Rattle.nucleus.specs.Commands.{one-of, reading-values, changing-held, has-option}
-use Rattle.codes.proofs.has_option.Statement.{statement}
-use Rattle.codes.proofs.has_option.Tie as tie
+use Rattle.options.proofs.has_option.Statement.{statement}
+use Rattle.options.proofs.has_option.Tie as tie
 
 reads-values-requires : tie.Need-reads-values-requires
 reads-values-requires c κs = search needs
