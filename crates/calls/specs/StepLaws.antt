@@ -38,7 +38,7 @@ use Rattle.shares.specs.declared.Done.{Done}
 use Rattle.overdue.specs.Parts.{parts}
 use Rattle.shares.specs.declared.Verdict.{Verdict}
 use Rattle.shares.specs.declared.Verdict.the-variants.{Passed, Refused}
-use Rattle.admission.specs.Admission.{admission-of}
+use Rattle.access.specs.Access.{admission-of}
 use Rattle.understanding.specs.Understanding.{understood-as}
 use Rattle.understanding.specs.Laws.{Plain, understood-plain}
 use Rattle.understanding.specs.declared.Understood.the-variants.{As}

@@ -101,7 +101,7 @@ fn ri(
 {
     if call.isn == 0 {
         let width = layout::image_length(d);
-        return ending::ri(call, share, queue, images, width);
+        return releasing::ri(call, share, queue, images, width);
     }
     in_file(
         Command::Ri,
@@ -146,7 +146,7 @@ fn perform(
         }
         Command::Bt => {
             let width = layout::image_length(d);
-            ending::bt(call, d, width, share, store, queue, images)
+            backing_out::bt(call, d, width, share, store, queue, images)
         }
         Command::Re => session_commands::re(share, buffer),
         Command::Op => session_commands::op(call, share),

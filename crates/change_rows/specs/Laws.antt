@@ -1,4 +1,4 @@
--- The rows of A1 and E1 are those of their chains; where none refuses, a record is there.
+-- The rows of a change are E1's; where none refuses, a record is there.
 -- Assumes nothing.
 use Prim.Native.Nat.{ℕ}
 use mathlib.Core.Path.{_≡_, refl}
@@ -11,9 +11,9 @@ use Rattle.store.specs.Store.{has-record}
 use Rattle.nucleus.specs.Rows.{Row, first-cause}
 use Rattle.nucleus.specs.declared.Call.{Call}
 use Rattle.shares.specs.Laws.{row-passed, last-passed}
-use Rattle.shares.specs.Chains.{row-scratch, rows-brought, row-other, row-there, row-held, rows-room, a1-cause, e1-cause}
+use Rattle.shares.specs.Chains.{row-other, row-there, row-held, rows-room, e1-cause}
 use Rattle.shares.specs.declared.Share.{Share}
-use Rattle.change_rows.specs.ChangeRows.{rows-changed, row-taken, rows-amended}
+use Rattle.change_rows.specs.ChangeRows.{rows-changed}
 
 module _ (f : File) (part : List ℕ) (call : Call) (x : Share) (queue : List ℕ) (room : ℕ) where
   pub e1-cause-is : e1-cause call x queue f part room ≡ first-cause (rows-changed f part call x queue room)
@@ -26,13 +26,3 @@ module _ (f : File) (part : List ℕ) (call : Call) (x : Share) (queue : List �
       let behind = row-held call x queue (call .isn) ∷ rows-room call x queue room (call .isn) ++ later in
       not-false (has-record f part (call .isn))
       (row-passed (row-there f part (call .isn)) behind (last-passed (row-other call x queue (call .isn) ∷ []) (row-there f part (call .isn) ∷ behind) e))
-
-  module _ (images : List ℕ) (width : ℕ) (format buffer : List ℕ) where
-    pub a1-cause-is : a1-cause f part call x queue images width room format buffer ≡ first-cause (rows-amended f part call x queue room images width format buffer)
-    unfolding a1-cause
-    a1-cause-is = refl
-
-    pub amend-there : first-cause (rows-amended f part call x queue room images width format buffer) ≡ none → has-record f part (call .isn) ≡ true
-    amend-there e =
-        let last = row-taken f part call x queue room images width format buffer ∷ [] in
-        change-there last (last-passed (row-scratch f ∷ rows-brought f format buffer) (rows-changed f part call x queue room ++ last) e)

@@ -1,16 +1,10 @@
-// The table of commands (document 01, 'The house call list'): a command by its two letters, and the options named for it.
-ghost use mathlib.Core.Bool.{_&&_};
+// The table of commands (document 01, 'The house call list'): a command by its two letters.
 ghost use mathlib.Core.Path.{_≡_};
-ghost use lib.Dec.{eqb};
 ghost use Rattle.lists.specs.Tests.{eqbs};
-ghost use Rattle.nucleus.specs.Commands.{commands, code-at, command-of, one-of, reading-values, changing-held, has-option, option-I};
-ghost use Rattle.codes.specs.Codes.{decoded, command-at, opening-only};
-use nucleus::ACCESS_ONLY;
-use nucleus::AT_OR_ABOVE;
-use nucleus::BLANK;
+ghost use Rattle.nucleus.specs.Commands.{commands, code-at, command-of};
+ghost use Rattle.codes.specs.Codes.{decoded, command-at};
 use nucleus::COMMANDS;
 use nucleus::Command;
-use nucleus::TAKE_HOLD;
 
 // The code of each command, at its place: the one table where letters stand.
 const CODES: [[u8; 2]; COMMANDS] = [
@@ -85,56 +79,4 @@ pub fn command_of(letters: [u8; 2]) -> Decoded
         i += 1;
     }
     Decoded::Unknown
-}
-
-// L1 and L4.
-fn reads_values(command: Command) -> bool
-    ensures { λ r. ⌜ r ≡ one-of reading-values command ⌝ }
-{
-    match command {
-        Command::L1 | Command::L4 => true,
-        _ => false,
-    }
-}
-
-// A1 and E1, which need a hold.
-fn changes_held(command: Command) -> bool
-    ensures { λ r. ⌜ r ≡ one-of changing-held command ⌝ }
-{
-    match command {
-        Command::A1 | Command::E1 => true,
-        _ => false,
-    }
-}
-
-fn opens(command: Command) -> bool
-    ensures { λ r. ⌜ r ≡ one-of opening-only command ⌝ }
-{
-    match command {
-        Command::Op => true,
-        _ => false,
-    }
-}
-
-// Whether the option is named for the command; a blank is none.
-pub fn has_option(command: Command, option: u8) -> bool
-    ensures { λ r. ⌜ r ≡ has-option command option ⌝ }
-{
-    match option {
-        BLANK => true,
-        AT_OR_ABOVE => reads_values(command),
-        TAKE_HOLD => changes_held(command),
-        ACCESS_ONLY => opens(command),
-        _ => false,
-    }
-}
-
-// L1 and L4 with option `I`, which seek their ISN.
-pub fn seeks(command: Command, option: u8) -> bool
-    ensures { λ r. ⌜ r ≡ (one-of reading-values command && eqb option option-I) ⌝ }
-{
-    if reads_values(command) {
-        return option == AT_OR_ABOVE;
-    }
-    false
 }

@@ -1,75 +1,22 @@
-// Commands after which entries go: RI, ET and BT.
+// ET: a transaction ends, and its changes stay.
 ghost use Prim.Native.Nat.{_+_, _≤_, min};
 ghost use mathlib.Core.Path.{_≡_};
 ghost use lib.Dec.{eqb};
 ghost use lib.ListN.{length};
 ghost use lib.Seq.{sets};
 ghost use Rattle.lists.specs.Tests.{cond};
-ghost use Rattle.removal.specs.declared.Removal.the-variants.{All};
-ghost use Rattle.hold.specs.Hold.{restore};
-ghost use Rattle.nucleus.specs.Users.{max-sequence, counted, ended};
+ghost use Rattle.nucleus.specs.Users.{max-sequence, counted};
 ghost use Rattle.nucleus.specs.Nucleus.{max-et-data};
-ghost use Rattle.nucleus.specs.Responses.{good};
-ghost use Rattle.shares.specs.Shares.{share-with-count, done};
-ghost use Rattle.shares.specs.Chains.{left-count, left-queue, left-images, gone};
-ghost use Rattle.shares.specs.Outcomes.{ri-done, ri-queue, ri-images, et-done, et-queue, et-images, bt-done};
-use definition::Definition;
+ghost use Rattle.shares.specs.Outcomes.{et-done, et-queue, et-images};
 use nucleus::Call;
 use nucleus::EtData;
 use nucleus::MAX_ET_DATA;
 use nucleus::MAX_SEQUENCE;
 use nucleus::Response;
 use nucleus::User;
-use queue::Lookup;
 use removal::Removal;
 use shares::Done;
 use shares::Share;
-
-// Drops entries; answers how many went.
-fn dropped(
-    isn: u16,
-    mut share: Share,
-    queue: &mut [u64],
-    images: &mut [u8],
-    width: usize,
-    which: Removal,
-) -> Done
-    ensures { λ r. ⌜ r ≡ done (good isn (gone share (now (queue .entry)) (now (images .entry)) width which) 0) (share-with-count (left-count share (now (queue .entry)) (now (images .entry)) width which) share) ⌝ }
-    ensures { λ _. ⌜ now (queue .exit) ≡ left-queue share (now (queue .entry)) (now (images .entry)) width which ⌝ }
-    ensures { λ _. ⌜ now (images .exit) ≡ left-images share (now (queue .entry)) (now (images .entry)) width which ⌝ }
-{
-    let left = release::let_go(share.count, queue, images, width, which);
-    let gone = share.count - left;
-    share.count = left;
-    shares::good(isn, gone, 0, share)
-}
-
-// RI: the caller's unchanged entry, or for ISN 0 all of his unchanged ones.
-pub fn ri(call: Call, share: Share, queue: &mut [u64], images: &mut [u8], width: usize) -> Done
-    ensures { λ r. ⌜ r ≡ ri-done call share (now (queue .entry)) (now (images .entry)) width ⌝ }
-    ensures { λ _. ⌜ now (queue .exit) ≡ ri-queue call share (now (queue .entry)) (now (images .entry)) width ⌝ }
-    ensures { λ _. ⌜ now (images .exit) ≡ ri-images call share (now (queue .entry)) (now (images .entry)) width ⌝ }
-{
-    if call.isn == 0 {
-        let which = Removal::Unchanged { user: call.user };
-        return dropped(call.isn, share, queue, images, width, which);
-    }
-    let found = queue::holder(queue, share.count, call.file, call.isn);
-    let Lookup::Held(_, entry) = found else {
-        return shares::refused(Response::NotHeld, share);
-    };
-    if entry.user != call.user {
-        return shares::refused(Response::NotHeld, share);
-    }
-    if entry.changed {
-        return shares::refused(Response::AlreadyChanged, share);
-    }
-    let which = Removal::One {
-        file: call.file,
-        isn: call.isn,
-    };
-    dropped(call.isn, share, queue, images, width, which)
-}
 
 // The sequence after one more ET: "it stops at 4294967295".
 fn next_sequence(sequence: u32) -> u32
@@ -134,27 +81,4 @@ pub fn et(
         count,
     };
     shares::good(0, gone, sequence, after)
-}
-
-// BT: the caller is backed out.
-pub fn bt(
-    call: Call,
-    d: Definition,
-    width: usize,
-    mut share: Share,
-    store: &mut [u8],
-    queue: &mut [u64],
-    images: &mut [u8],
-) -> Done
-    ensures { λ r. ⌜ r ≡ bt-done call share (now (queue .entry)) (now (images .entry)) width ⌝ }
-    ensures { λ _. ⌜ now (store .exit) ≡ restore d width (call .user) (now (queue .entry)) (now (images .entry)) (share .count) (now (store .entry)) ⌝ }
-    ensures { λ _. ⌜ now (queue .exit) ≡ left-queue share (now (queue .entry)) (now (images .entry)) width (All (call .user)) ⌝ }
-    ensures { λ _. ⌜ now (images .exit) ≡ left-images share (now (queue .entry)) (now (images .entry)) width (All (call .user)) ⌝ }
-{
-    let count = release::back_out(d, width, call.user, store, queue, images, share.count);
-    let gone = share.count - count;
-    let user = release::ended(share.user);
-    share.user = user;
-    share.count = count;
-    shares::good(0, gone, 0, share)
 }

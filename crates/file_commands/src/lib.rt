@@ -28,10 +28,10 @@ pub fn on_file(
 {
     match command {
         Command::Hi => holding::hi(call, most, clock, share, f, part, queue),
-        Command::Ri => ending::ri(call, share, queue, images, width),
+        Command::Ri => releasing::ri(call, share, queue, images, width),
         Command::L1 => retrieval::l1(call, share, f, part, format, buffer),
         Command::L4 => { retrieval::l4(call, most, clock, share, f, part, queue, format, buffer) }
-        Command::A1 => changing::a1(
+        Command::A1 => updating::a1(
             call,
             most,
             width,
@@ -44,7 +44,7 @@ pub fn on_file(
             format,
             buffer,
         ),
-        Command::E1 => changing::e1(call, most, width, clock, share, f, part, queue, images),
+        Command::E1 => deleting::e1(call, most, width, clock, share, f, part, queue, images),
         Command::N1 => adding::n1(
             call,
             most,

@@ -1,9 +1,9 @@
 // Whether one file of a kept definition breaks a rule of document 01: any value, also one that nobody read from bytes.
 ghost use mathlib.Core.Path.{_≡_};
 ghost use mathlib.Core.Bool.{_&&_};
-ghost use lib.Dec.{eqb, leb};
+ghost use lib.Dec.{leb};
 ghost use Rattle.lists.specs.Tests.{within};
-ghost use Rattle.lists.specs.Folds.{any, sound};
+ghost use Rattle.lists.specs.Folds.{sound};
 ghost use Rattle.definition.specs.Table.{max-length, max-record-length, fields-of, named-alike};
 ghost use Rattle.records.specs.Records.{record-length};
 ghost use Rattle.file_validity.specs.FileValidity.{name-valid, field-valid, file-valid};
@@ -70,20 +70,6 @@ fn name_number(n: Name) -> u16
     n.first as u16 * 256 + n.second as u16
 }
 
-// Whether a number is one of those.
-pub fn among(numbers: &[u16], number: u16) -> bool
-    ensures { λ r. ⌜ r ≡ any (eqb number) (now (numbers .entry)) ⌝ }
-{
-    let mut i = 0;
-    while i < numbers.len() {
-        if number == numbers[i] {
-            return true;
-        }
-        i += 1;
-    }
-    false
-}
-
 // Whether the fields are valid, no name stands twice, and they have no more bytes together than a record may. Their names are noted as they are
 // passed, so that no call in the loop takes the file.
 fn fields_valid(f: File) -> bool
@@ -99,7 +85,7 @@ fn fields_valid(f: File) -> bool
             return false;
         }
         let name = name_number(g.name);
-        if among(&names[..i], name) {
+        if membership::among(&names[..i], name) {
             return false;
         }
         names[i] = name;

@@ -1,4 +1,4 @@
-// What `partycall` prints for a call (document 01, 'The house call list'): the number of a response, and the line, in a lent buffer.
+// What `partycall` prints for a call (document 01, 'The house call list'): a line, in a lent buffer.
 ghost use mathlib.Core.Path.{_≡_};
 ghost use mathlib.Core.Bool.{_&&_, not};
 ghost use mathlib.Core.List.{_∷_, _++_};
@@ -7,45 +7,12 @@ ghost use Prim.Native.Nat.{_+_, _*_, _≤_, _<_};
 ghost use lib.Dec.{eqb};
 ghost use lib.ListN.{length};
 ghost use Rattle.nucleus.specs.Commands.{commands, command-of};
-ghost use Rattle.nucleus.specs.Responses.{number};
 ghost use Rattle.nucleus.specs.Line.{digit, decimal, hexadecimal, shows, numbers-part, line-of};
 ghost use Rattle.lines.specs.Lines.{Within, Put, Front, put-length, put-front};
 use codes::Decoded;
 use nucleus::Answer;
 use nucleus::Call;
 use nucleus::Command;
-use nucleus::Response;
-
-// Document 01's number for a cause.
-pub fn number(response: Response) -> u16
-    ensures { λ r. ⌜ r ≡ number response ⌝ }
-{
-    match response {
-        Response::Good => 0,
-        Response::DefinitionInvalid => 10,
-        Response::BufferTooShort => 11,
-        Response::StateInvalid => 12,
-        Response::CommandUnknown => 22,
-        Response::UserUnknown => 72,
-        Response::BackedOut => 9,
-        Response::AccessOnly => 29,
-        Response::FileUnknown => 17,
-        Response::IsnInvalid => 113,
-        Response::FormatInvalid => 41,
-        Response::FieldTwice => 44,
-        Response::RecordLength => 53,
-        Response::ValueInvalid => 55,
-        Response::NotFound => 3,
-        Response::HeldByAnother => 145,
-        Response::Presence => 113,
-        Response::NotHeld => 144,
-        Response::AlreadyChanged => 146,
-        Response::FileFull => 75,
-        Response::HoldLimit => 47,
-        Response::QueueFull => 70,
-        Response::ValueTaken => 198,
-    }
-}
 
 // As ASCII, to `F`.
 fn digit(d: u8) -> u8
@@ -86,7 +53,7 @@ fn put_numbers(answer: Answer, out: &mut [u8]) -> usize
     ensures { λ r. ⌜ Put (now (out .entry)) 0 (numbers-part answer) r (now (out .exit)) ⌝ }
 {
     let response = answer.response;
-    let first = put_decimal(number(response) as u64, 0, out);
+    let first = put_decimal(response_numbers::number(response) as u64, 0, out);
     let second = put_next(answer.isn as u64, first, out);
     let third = put_next(answer.quantity as u64, second, out);
     put_next(answer.sequence as u64, third, out)

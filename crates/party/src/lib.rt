@@ -164,7 +164,7 @@ pub fn run(fd: i32) {
     let mut images = [0u8; IMAGES];
     let nucleus = setup::set_up(&table[..length], CAPACITY, &mut store, &queue, &images);
     let response = nucleus.response;
-    if lines::number(response) != 0 {
+    if response_numbers::number(response) != 0 {
         print_bad();
         return;
     }

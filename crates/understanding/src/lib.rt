@@ -24,7 +24,7 @@ pub fn understand(call: Call) -> Understood
     let Decoded::Known(command) = decoded else {
         return Understood::Refused(Response::CommandUnknown);
     };
-    if !codes::has_option(command, call.option) {
+    if !options::has_option(command, call.option) {
         return Understood::Refused(Response::CommandUnknown);
     }
     if call.user < 1 {
@@ -56,7 +56,7 @@ fn at_given_isn(command: Command) -> bool
 pub fn isn_refused(command: Command, call: Call, max_isn: u16) -> bool
     ensures { λ r. ⌜ r ≡ isn-refused command call «max_isn» ⌝ }
 {
-    if codes::seeks(command, call.option) {
+    if options::seeks(command, call.option) {
         return false;
     }
     if !at_given_isn(command) {

@@ -20,7 +20,7 @@ fn files_valid(d: Definition) -> bool
             return false;
         }
         let number = f.number as u16;
-        if file_validity::among(&numbers[..i], number) {
+        if membership::among(&numbers[..i], number) {
             return false;
         }
         numbers[i] = number;

@@ -10,8 +10,13 @@ use Rattle.nucleus.specs.declared.Call.{Call}
 use Rattle.nucleus.specs.declared.Command.{Command}
 use Rattle.nucleus.specs.declared.Command.the-variants.{Hi, Ri, L1, L4, A1, E1, N1, N2, Et, Bt, Re, Op, Cl}
 use Rattle.shares.specs.declared.Share.{Share}
-use Rattle.codes.proofs.Groups.{in-group}
-use Rattle.shares.specs.Outcomes.{et-done, et-queue, et-images}
+use Rattle.options.proofs.Groups.{in-group}
+use Rattle.layout.specs.Layout.{image-length}
+use Rattle.hold.specs.Hold.{restore}
+use Rattle.removal.specs.declared.Removal.the-variants.{All}
+use Rattle.shares.specs.Chains.{left-queue, left-images}
+use Rattle.shares.specs.Outcomes.{et-done, et-queue, et-images, bt-done}
+use Rattle.shares.specs.declared.Done.{Done}
 use Rattle.file_commands.specs.FileCommands.{Left, left}
 use Rattle.calls.specs.Commands.{in-file, about-file, performed}
 use Rattle.calls.proofs.perform.Statement.{statement}
@@ -37,6 +42,22 @@ module _ (call : Call) (most clock : ℕ) (x : Share) (d : Definition) (store qu
   of-file Re h = not-both false h refl
   of-file Op h = not-both false h refl
   of-file Cl h = not-both false h refl
+
+  -- what ET and BT left, by the length of an image that the code has
+  module _ (width : ℕ) (same-width : width ≡ image-length d) (made : Done) (store′ queue′ images′ : List ℕ) where
+    ended : made ≡ et-done call x queue images width buffer → queue′ ≡ et-queue call x queue images width buffer → images′ ≡ et-images call x queue images width buffer
+        → left made store queue′ images′ buffer ≡ performed call most clock x d store queue images format buffer Et
+    unfolding performed
+    ended same-done same-queue same-images =
+        (λ i. left (same-done i) store (same-queue i) (same-images i) buffer)
+        ∙ ap (λ w. left (et-done call x queue images w buffer) store (et-queue call x queue images w buffer) (et-images call x queue images w buffer) buffer) same-width
+
+    backed-out : made ≡ bt-done call x queue images width → store′ ≡ restore d width (call .user) queue images (x .count) store → queue′ ≡ left-queue x queue images width (All (call .user)) → images′ ≡ left-images x queue images width (All (call .user))
+        → left made store′ queue′ images′ buffer ≡ performed call most clock x d store queue images format buffer Bt
+    unfolding performed
+    backed-out same-done same-store same-queue same-images =
+        (λ i. left (same-done i) (same-store i) (same-queue i) (same-images i) buffer)
+        ∙ ap (λ w. left (bt-done call x queue images w) (restore d w (call .user) queue images (x .count) store) (left-queue x queue images w (All (call .user))) (left-images x queue images w (All (call .user))) buffer) same-width
 
 -- what a command left, where the command is told
 abbrev on : tie.Start → Command → Left
@@ -101,13 +122,11 @@ same-length-3 : tie.Need-same-length-3
 same-length-3 c = search needs
 
 returns : tie.Need-returns
-unfolding performed
 returns c =
     let s = c .before .before .before .before .before .before .before .before .before .before .before .before .before .before .before .before in
     let e = c .before .before .before .before .et .ensures in
     as-told s Et _
-    ((λ i. left (e .0 i) (s .args .store .now) (e .1 .0 i) (e .1 .1 i) (s .args .buffer .now))
-    ∙ ap (λ w. left (et-done (s .args .call) (s .args .share) (s .args .queue .now) (s .args .images .now) w (s .args .buffer .now)) (s .args .store .now) (et-queue (s .args .call) (s .args .share) (s .args .queue .now) (s .args .images .now) w (s .args .buffer .now)) (et-images (s .args .call) (s .args .share) (s .args .queue .now) (s .args .images .now) w (s .args .buffer .now)) (s .args .buffer .now)) (c .before .before .before .before .before .before .before .before .image-length .ensures))
+    (ended (s .args .call) (s .args .most) (s .args .clock) (s .args .share) (s .args .d) (s .args .store .now) (s .args .queue .now) (s .args .images .now) (s .args .format .now) (s .args .buffer .now) _ (c .before .before .before .before .before .before .before .before .image-length .ensures) _ (s .args .store .now) _ _ (e .0) (e .1 .0) (e .1 .1))
     (c .before .before .before .before .before .before .before .before .before .enum-told .given .1)
 
 same-length-4 : tie.Need-same-length-4
@@ -120,10 +139,13 @@ same-length-6 : tie.Need-same-length-6
 same-length-6 c = search needs
 
 returns-2 : tie.Need-returns-2
-unfolding performed
 returns-2 c =
-    let b = c .before .before .before .before .before .before in
-    rw (c .before .before .before .before .before .before .before .before .before .before .before .enum-told2 .given .1, b .bt .ensures .0, b .bt .ensures .1 .0, b .bt .ensures .1 .1 .0, b .bt .ensures .1 .1 .1, c .before .before .before .before .before .before .before .before .before .before .image-length2 .ensures)
+    let told = c .before .before .before .before .before .before .before .before .before .before .before in
+    let s = told .before .before .before .before .before .before .before in
+    let e = c .before .before .before .before .before .before .bt .ensures in
+    as-told s Bt _
+    (backed-out (s .args .call) (s .args .most) (s .args .clock) (s .args .share) (s .args .d) (s .args .store .now) (s .args .queue .now) (s .args .images .now) (s .args .format .now) (s .args .buffer .now) _ (c .before .before .before .before .before .before .before .before .before .before .image-length2 .ensures) _ _ _ _ (e .0) (e .1 .0) (e .1 .1 .0) (e .1 .1 .1))
+    (told .enum-told2 .given .1)
 
 same-length-7 : tie.Need-same-length-7
 same-length-7 c = search needs

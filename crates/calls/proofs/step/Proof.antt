@@ -1,26 +1,38 @@
 -- `step` meets its contract: each row that refuses, and the command where none does. Assumes nothing.
-use mathlib.Core.Path.{_≡_, sym, _∙_}
+use mathlib.Core.Path.{_≡_, sym, ap, _∙_}
 use native.Mathlib.Omega.{arith}
-use Prim.Native.Nat.{_≤_}
+use Prim.Native.Nat.{ℕ, _≤_}
 use lib.ListN.{length}
 use mathlib.Core.Bool.{false}
+use mathlib.Core.List.{List}
 use mathlib.Core.Option.{none}
 use Rattle.lists.specs.Tests.{within-least, within-most}
 use Rattle.layout.specs.Layout.{store-size}
 use Rattle.nucleus.specs.Commands.{commands}
-use Rattle.nucleus.specs.Nucleus.{Nucleus, nucleus}
+use Rattle.nucleus.specs.Nucleus.{Nucleus, nucleus, Result, result}
 use Rattle.nucleus.specs.WellMade.{too-short}
 use Rattle.nucleus.specs.Rows.{first-cause, rows-usable}
+use Rattle.nucleus.specs.Responses.{refused}
 use Rattle.nucleus.specs.declared.Command.{Command}
+use Rattle.nucleus.specs.declared.Response.{Response}
+use Rattle.nucleus.specs.declared.State.{State}
 use Rattle.shares.specs.Causes.{verdict-refused, verdict-passed}
 use Rattle.usability.specs.Sizes.{store-long, queue-long}
 use Rattle.understanding.specs.Understanding.{understood-as}
 use Rattle.understanding.specs.Laws.{refused-cause, understood-plain}
 use Rattle.understanding.specs.declared.Understood.the-variants.{As}
+use Rattle.calls.specs.Outcome.{outcome}
+use Rattle.calls.specs.declared.Outcome.{Outcome}
 use Rattle.calls.specs.StepLaws.{step-unusable, step-misunderstood, usable-valid, usable-long, refused-through, performed-through}
 use borrow.Author.Needs.{needs}
 use Rattle.calls.proofs.step.Statement.{statement}
 use Rattle.calls.proofs.step.Tie as tie
+
+-- a refusal that the code gives back
+given-back : (state : State) (store queue images buffer : List ℕ) (cause : Response) (o : Outcome) (whole : Result)
+    → o ≡ outcome (refused cause) state → result (refused cause) (nucleus state store queue images) buffer ≡ whole
+    → result (o .answer) (nucleus (o .state) store queue images) buffer ≡ whole
+given-back state store queue images buffer cause o whole e same = ap (λ (o : Outcome). result (o .answer) (nucleus (o .state) store queue images) buffer) e ∙ same
 
 abbrev entry : tie.After-admit → tie.Start
 entry k = k .before .before .before .before .before .before .before .before .before .before .before .before .before .before .before .before .before .before .before .before .before
@@ -76,7 +88,7 @@ returns c =
     let n = nucleus (a .state) (a .store .now) (a .queue .now) (a .images .now) in
     let cause = c .before .before .usable2 .given .0 .0 in
     let e = verdict-refused (first-cause (rows-usable (a .capacity) n)) cause (sym (c .before .before .before .before .usable .ensures) ∙ c .before .before .usable2 .given .1) in
-    rw (c .refused .ensures) (sym (step-unusable (a .capacity) (a .call) (a .format .now) (a .buffer .now) n cause e))
+    given-back _ _ _ _ _ cause _ _ (c .refused .ensures) (sym (step-unusable (a .capacity) (a .call) (a .format .now) (a .buffer .now) n cause e))
 
 enum-told : tie.Need-enum-told
 enum-told c = search needs
@@ -109,7 +121,7 @@ returns-2 c =
     let told = c .before .before .understood2 .given in
     let usable = verdict-passed (first-cause (rows-usable (a .capacity) n)) (sym (c .before .before .before .before .before .before .before .usable .ensures) ∙ c .before .before .before .before .before .enum-told .given .1) in
     let e = refused-cause commands (a .call) (told .0 .0) (sym (c .before .before .before .before .understand .ensures) ∙ told .1) in
-    rw (c .refused2 .ensures) (sym (step-misunderstood (a .capacity) (a .call) (a .format .now) (a .buffer .now) n usable (told .0 .0) e))
+    given-back _ _ _ _ _ (told .0 .0) _ _ (c .refused2 .ensures) (sym (step-misunderstood (a .capacity) (a .call) (a .format .now) (a .buffer .now) n usable (told .0 .0) e))
 
 admit-requires : tie.Need-admit-requires
 admit-requires c κs = search needs
@@ -135,7 +147,7 @@ returns-3 c =
     let a = entry k .args in
     let told = c .before .before .verdict .given in
     let e = k .admit .ensures (a .state .«et_data») (a .state .«last_assigned») in
-    rw (c .refused3 .ensures)
+    given-back _ _ _ _ _ (told .0 .0) _ _ (c .refused3 .ensures)
     (refused-through (a .capacity) (a .call) (a .format .now) (a .buffer .now) (a .state) (a .store .now) (a .queue .now) (a .images .now) _ _ _ _ _ _ (asked k) (usable k) (understood k) (k .admit .result .verdict) (told .0 .0) e (told .1))
 
 enum-told-2 : tie.Need-enum-told-2

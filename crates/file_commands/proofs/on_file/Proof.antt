@@ -14,7 +14,7 @@ use Rattle.nucleus.specs.declared.Command.the-variants.{Hi, Ri, L1, L4, A1, E1,
 use Rattle.nucleus.specs.declared.Response.the-variants.{CommandUnknown}
 use Rattle.shares.specs.Shares.{done}
 use Rattle.shares.specs.declared.Share.{Share}
-use Rattle.codes.proofs.Groups.{in-group}
+use Rattle.options.proofs.Groups.{in-group}
 use Rattle.file_commands.specs.FileCommands.{Left, left, on-file}
 use Rattle.file_commands.proofs.on_file.Statement.{statement}
 use Rattle.file_commands.proofs.on_file.Tie as tie

@@ -3,7 +3,7 @@
 use mathlib.Core.List.{List, [], _∷_}
 use Rattle.nucleus.specs.declared.Command.{Command}
 use Rattle.nucleus.specs.declared.Command.the-variants.{L1, L4, Re}
-use Rattle.codes.proofs.Groups.{in-group, not-in-group}
+use Rattle.options.proofs.Groups.{in-group, not-in-group}
 use Rattle.lines.proofs.reads.Statement.{statement}
 use Rattle.lines.proofs.reads.Tie as tie
 

@@ -1,7 +1,7 @@
 -- `at_given_isn` meets its contract.
 -- Assumes nothing.
 use Rattle.nucleus.specs.Commands.{at-given-isn}
-use Rattle.codes.proofs.Groups.{in-group, not-in-group}
+use Rattle.options.proofs.Groups.{in-group, not-in-group}
 use Rattle.understanding.proofs.at_given_isn.Statement.{statement}
 use Rattle.understanding.proofs.at_given_isn.Tie as tie
 

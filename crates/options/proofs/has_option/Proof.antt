@@ -1,0 +1,57 @@
+-- `has_option` meets its contract: the option of each arm computes to its test of the command.
+-- Assumes nothing.
+use mathlib.Core.Path.{_≡_, sym, ap, _∙_}
+use mathlib.Core.Bool.{or-false}
+use borrow.Author.Needs.{needs}
+use borrow.Author.Tests.{ne-eqb}
+use Rattle.nucleus.specs.Commands.{one-of, reading-values, changing-held, has-option}
+use Rattle.options.proofs.has_option.Statement.{statement}
+use Rattle.options.proofs.has_option.Tie as tie
+
+reads-values-requires : tie.Need-reads-values-requires
+reads-values-requires c κs = search needs
+
+changes-held-requires : tie.Need-changes-held-requires
+changes-held-requires c κs = search needs
+
+opens-requires : tie.Need-opens-requires
+opens-requires c κs = search needs
+
+returns : tie.Need-returns
+unfolding has-option
+returns c = sym (ap (has-option (c .before .args .command)) (c .match .keys1))
+
+returns-2 : tie.Need-returns-2
+unfolding has-option
+returns-2 c =
+    let command = c .before .before .args .command in
+    let here : has-option command 73 ≡ one-of reading-values command = simp or-false in
+    c .reads-values .ensures ∙ sym (ap (has-option command) (c .before .match .keys2) ∙ here)
+
+returns-3 : tie.Need-returns-3
+unfolding has-option
+returns-3 c =
+    let command = c .before .before .args .command in
+    let here : has-option command 72 ≡ one-of changing-held command = simp or-false in
+    c .changes-held .ensures ∙ sym (ap (has-option command) (c .before .match .keys3) ∙ here)
+
+returns-4 : tie.Need-returns-4
+unfolding has-option
+returns-4 c = c .opens .ensures ∙ sym (ap (has-option (c .before .before .args .command)) (c .before .match .keys4))
+
+returns-5 : tie.Need-returns-5
+unfolding has-option
+returns-5 c = let r = c .match .rest in rw (ne-eqb _ 32 (r .0 .0 .0 .1), ne-eqb _ 73 (r .0 .0 .1), ne-eqb _ 72 (r .0 .1), ne-eqb _ 65 (r .1))
+
+pub has-option-spec : {M : Type 1} → statement M
+has-option-spec =
+    tie.close
+    (tie.spec
+    reads-values-requires
+    changes-held-requires
+    opens-requires
+    returns
+    returns-2
+    returns-3
+    returns-4
+    returns-5)

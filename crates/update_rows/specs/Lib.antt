@@ -1,0 +1,2 @@
+pub mod UpdateRows
+pub mod Laws
