@@ -1,5 +1,5 @@
 #!/usr/bin/env python3
-# queue_facade.py: writes crates/direct_calls/proofs/direct_call/Proof.antt, the proof of a function of this shape. Run it in the repository's root.
+# queue_facade.py FUNCTION: writes crates/direct_calls/proofs/FUNCTION/Proof.antt, for direct_call or kept_call. Run it in the repository's root.
 #
 #     pub fn OUTER(state: State, capacity: usize, a: A, .., s: &mut [u8], queue: &mut [Entry], ..) -> Outcome {
 #         let n = FITTING(capacity, queue.len());
@@ -10,45 +10,59 @@
 #         r
 #     }
 #
-# capacity is the first parameter after the state, and INNER has n there. words_out and words_in are those of this crate, with their proofs.
-# The ensures of INNER is one clause, and so is that of OUTER; a law makes the second of the first. Neither has a requires.
-# The script computes each position of the context as it goes (the class Walk), so that nothing is counted by hand.
+# State and Outcome are any structs of plain data. capacity is the first parameter after the state, and INNER has n there. words_out and words_in are
+# those of this crate, with their proofs. The ensures of INNER is one clause, and so is that of OUTER; a law makes the second of the first. Neither
+# has a requires. The script computes each position of the context as it goes (the class Walk), so that nothing is counted by hand.
 # What to change for another function stands between the two rules.
 # ------------------------------------------------------------------------------------------------------------------------------------------
 import os
-crate, outer, inner, fitting = 'direct_calls', 'direct_call', 'on_words', 'fitting'
-params = [('capacity', 'uint', 'usize'), ('call', 'struct', 'Call'), ('store', 'mut', 'u8'), ('queue', 'queue', 'Entry'), ('images', 'mut', 'u8'),
+import sys
+crate, outer, fitting = 'direct_calls', sys.argv[1], 'fitting'
+inner = {'direct_call': 'on_words', 'kept_call': 'on_kept_words'}[outer]
+# the call's argument, and the crate and the type that State, Outcome and the argument's type stand for
+bringing = {'direct_call': ('call', 'Call'), 'kept_call': ('block', 'ControlBlock')}[outer]
+declared = {'direct_call': {'State': ('nucleus', 'State'), 'Outcome': ('calls', 'Outcome'), 'Call': ('nucleus', 'Call'), 'Entry': ('entries', 'Entry')},
+            'kept_call': {'State': ('kept_states', 'KeptState'), 'Outcome': ('kept_states', 'Left'), 'ControlBlock': ('kept_states', 'ControlBlock'),
+                          'Entry': ('entries', 'Entry')}}[outer]
+params = [('capacity', 'uint', 'usize'), (bringing[0], 'struct', bringing[1]), ('store', 'mut', 'u8'), ('queue', 'queue', 'Entry'), ('images', 'mut', 'u8'),
           ('format', 'shr', 'u8'), ('buffer', 'mut', 'u8')]
 # INNER's clause at n and at the words ws, over r, s (the state), plain parameters by name, NAME-at (the list of a slice on entry) and end (the
-# list of a &mut slice at exit, 'queue' being the words); and OUTER's clause
+# list of a &mut slice at exit, 'queue' being the words)
 def inner_says(n, ws, end):
-    return (f'result (r .answer) (nucleus (r .state) {end["store"]} {end["queue"]} {end["images"]}) {end["buffer"]}'
-            f' ≡ on-words {n} call format-at buffer-at (nucleus s store-at {ws} images-at)')
-outer_says = ('reply (r .answer) (database (r .state) store-end queue-end images-end) buffer-end'
-              ' ≡ direct-call capacity call format-at buffer-at (database s store-at queue-at images-at)')
+    return {'direct_call': f'result (r .answer) (nucleus (r .state) {end["store"]} {end["queue"]} {end["images"]}) {end["buffer"]}'
+            f' ≡ on-words {n} call format-at buffer-at (nucleus s store-at {ws} images-at)',
+            'kept_call': f'kept-result r {end["store"]} {end["queue"]} {end["images"]} {end["buffer"]} ≡ on-kept-words {n} s block store-at {ws} images-at format-at buffer-at'}[outer]
+# OUTER's clause
+outer_says = {'direct_call': 'reply (r .answer) (database (r .state) store-end queue-end images-end) buffer-end'
+              ' ≡ direct-call capacity call format-at buffer-at (database s store-at queue-at images-at)',
+              'kept_call': 'kept-reply r store-end queue-end images-end buffer-end ≡ kept-call capacity s block store-at queue-at images-at format-at buffer-at'}[outer]
 # the law: from n is what fits, the words out, their lengths, INNER's clause and the words in
 def joined(out, left, long, room, end):
-    return (f'(directly capacity call format-at buffer-at s store-at queue-at images-at n blank {out} {left} en e₁ {long} {room}'
-            f' (r .answer) (r .state) {end["store"]} {end["queue"]} {end["images"]} {end["buffer"]} e₂ e₃)')
+    return {'direct_call': f'(directly capacity call format-at buffer-at s store-at queue-at images-at n blank {out} {left} en e₁ {long} {room}'
+            f' (r .answer) (r .state) {end["store"]} {end["queue"]} {end["images"]} {end["buffer"]} e₂ e₃)',
+            'kept_call': f'(kept-directly capacity s block store-at queue-at images-at format-at buffer-at n blank {out} {left} en e₁ {long} {room}'
+            f' r {end["store"]} {end["queue"]} {end["images"]} {end["buffer"]} e₂ e₃)'}[outer]
 # the capacity that fits, and that it is within the queue and the words
 FIT = '(fitting capacity (length queue-at))'
 fit_le = '(fitting-size capacity (length queue-at))'
 fit_256 = '(fitting-most capacity (length queue-at))'
 OUT, IN = 'packed-front', 'unpacked-front'
-cites = '''use Rattle.entries.specs.Entries.{unpack-of}
-use Rattle.nucleus.specs.Nucleus.{nucleus, result}
+cites = {'direct_call': '''use Rattle.nucleus.specs.Nucleus.{nucleus, result}
 use Rattle.database.specs.Database.{fitting, database, reply, direct-call}
-use Rattle.database.specs.Laws.{fitting-size, fitting-most}
 use Rattle.direct_calls.specs.DirectCalls.{packed-front, unpacked-front, on-words}
-use Rattle.direct_calls.specs.Laws.{directly}'''
-declared = {'State': 'nucleus', 'Outcome': 'calls', 'Call': 'nucleus', 'Entry': 'entries'}
+use Rattle.direct_calls.specs.Laws.{directly}''', 'kept_call': '''use Rattle.database.specs.Database.{fitting}
+use Rattle.direct_calls.specs.DirectCalls.{packed-front, unpacked-front}
+use Rattle.direct_calls.specs.Kept.{kept-result, on-kept-words, kept-reply, kept-call}
+use Rattle.direct_calls.specs.KeptLaws.{kept-directly}'''}[outer] + '''
+use Rattle.entries.specs.Entries.{unpack-of}
+use Rattle.database.specs.Laws.{fitting-size, fitting-most}'''
 # ------------------------------------------------------------------------------------------------------------------------------------------
 BUILTIN = {'u8': 'w8', 'u64': 'w64', 'usize': 'w64'}
 subs = '₀₁₂₃₄₅₆₇₈₉'
 def kebab(s): return s.replace('_', '-')
-def mod(t, side, rest=''):
-    c = declared[t]
-    return f'Rattle.{c}' + (f'·{side}.{side}' if c == crate else f'.{side}') + rest
+def mod(t, side, rest):
+    c, name = declared[t]
+    return f'Rattle.{c}' + (f'·{side}.{side}' if c == crate else f'.{side}') + rest.format(name)
 def row(t): return t if t in BUILTIN else f'{t}-type.the-row'
 def den(t): return 'ℕ' if t in BUILTIN else t
 def tup(l): return '(' + ', ('.join(l) + ', tt' + ')' * len(l) if l else 'tt'
@@ -173,10 +187,10 @@ use denote.Exit.{{yes}}
 {cites}
 use {P}.Front.{{front-length}}
 use {P}.Loan.{{lend-row, row-back, share-row, unshare-row, array-row, row-room}}''')
-for t in uses: w(f'use {mod(t, "specs", f".declared.{t}")}.{{{t}}}')
+for t in uses: w(f'use {mod(t, "specs", ".declared.{}")}.{{{declared[t][1] if declared[t][1] == t else declared[t][1] + " as " + t}}}')
 for t in uses:
-    w(f'use {mod(t, "proofs", f".{t}")} as {t}-type')
-    if t != 'Entry': w(f'use {mod(t, "proofs", f".{t}.Laws")} as {t}-laws')
+    w(f'use {mod(t, "proofs", ".{}")} as {t}-type')
+    if t != 'Entry': w(f'use {mod(t, "proofs", ".{}.Laws")} as {t}-laws')
 for f, a in ((fitting, 'fits'), ('words_out', 'words-out'), (inner, 'callee'), ('words_in', 'words-in')):
     w(f'use {P}.{f} as {a}\nuse {P}.{f}.Symbol as {a}-def\nuse {P}.{f}.Symbol.{{name as {K(f)}}}\nuse {P}.{f}.Met as {a}-thm')
 w(f'''use {P}.{outer}.Key.{{name as {K(outer)}}}

@@ -1,2 +1,4 @@
 pub mod DirectCalls
+pub mod Kept
+pub mod KeptLaws
 pub mod Laws

@@ -6,8 +6,12 @@ ghost use lib.ListN.{length};
 ghost use Rattle.database.specs.Database.{database, fitting, reply, direct-call};
 ghost use Rattle.nucleus.specs.Nucleus.{nucleus, result};
 ghost use Rattle.direct_calls.specs.DirectCalls.{packed-front, unpacked-front, on-words};
+ghost use Rattle.direct_calls.specs.Kept.{kept-result, on-kept-words, kept-reply, kept-call};
 use calls::Outcome;
 use entries::Entry;
+use kept_states::ControlBlock;
+use kept_states::KeptState;
+use kept_states::Left;
 use nucleus::Call;
 use nucleus::MAX_CAPACITY;
 use nucleus::State;
@@ -76,6 +80,26 @@ fn on_words(
     )
 }
 
+// The same for a state and a call as a caller keeps them.
+fn on_kept_words(
+    state: KeptState,
+    n: usize,
+    block: ControlBlock,
+    store: &mut [u8],
+    words: &mut [u64],
+    images: &mut [u8],
+    format: &[u8],
+    buffer: &mut [u8],
+) -> Left
+    ensures { λ r. ⌜ kept-result r (now (store .exit)) (now (words .exit)) (now (images .exit)) (now (buffer .exit))
+        ≡ on-kept-words n state block (now (store .entry)) (now (words .entry)) (now (images .entry)) (now (format .entry)) (now (buffer .entry)) ⌝ }
+{
+    let thawed = kept_states::thawed(state);
+    let call = kept_states::call_of(block);
+    let outcome = on_words(thawed, n, call, store, words, images, format, buffer);
+    kept_states::left_by(state, block, outcome)
+}
+
 // One call, for any state, capacity, call and buffers.
 pub fn direct_call(
     state: State,
@@ -94,6 +118,28 @@ pub fn direct_call(
     let mut words = [0u64; MAX_CAPACITY];
     words_out(queue, &mut words, n);
     let r = on_words(state, n, call, store, &mut words, images, format, buffer);
+    words_in(queue, &words, n);
+    r
+}
+
+// The same for a state and a control block as a caller keeps them.
+pub fn kept_call(
+    state: KeptState,
+    capacity: usize,
+    block: ControlBlock,
+    store: &mut [u8],
+    queue: &mut [Entry],
+    images: &mut [u8],
+    format: &[u8],
+    buffer: &mut [u8],
+) -> Left
+    ensures { λ r. ⌜ kept-reply r (now (store .exit)) (now (queue .exit)) (now (images .exit)) (now (buffer .exit))
+        ≡ kept-call capacity state block (now (store .entry)) (now (queue .entry)) (now (images .entry)) (now (format .entry)) (now (buffer .entry)) ⌝ }
+{
+    let n = fitting(capacity, queue.len());
+    let mut words = [0u64; MAX_CAPACITY];
+    words_out(queue, &mut words, n);
+    let r = on_kept_words(state, n, block, store, &mut words, images, format, buffer);
     words_in(queue, &words, n);
     r
 }

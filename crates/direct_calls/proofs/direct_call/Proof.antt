@@ -44,12 +44,12 @@ use denote.Triple.Spec.{Meets, tripleOf}
 use denote.Triple.Table.{entered, cited}
 use denote.Triple.Walked.{says, Stays, stay-slice, stay-dropped, gave-slice, walkOf, goes-slice, goes-dropped, goes-gave-slice, Walks, ends-at, walked, walk-meets}
 use denote.Exit.{yes}
-use Rattle.entries.specs.Entries.{unpack-of}
 use Rattle.nucleus.specs.Nucleus.{nucleus, result}
 use Rattle.database.specs.Database.{fitting, database, reply, direct-call}
-use Rattle.database.specs.Laws.{fitting-size, fitting-most}
 use Rattle.direct_calls.specs.DirectCalls.{packed-front, unpacked-front, on-words}
 use Rattle.direct_calls.specs.Laws.{directly}
+use Rattle.entries.specs.Entries.{unpack-of}
+use Rattle.database.specs.Laws.{fitting-size, fitting-most}
 use Rattle.direct_calls.proofs.Front.{front-length}
 use Rattle.direct_calls.proofs.Loan.{lend-row, row-back, share-row, unshare-row, array-row, row-room}
 use Rattle.nucleus.specs.declared.Call.{Call}

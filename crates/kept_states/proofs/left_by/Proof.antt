@@ -1,0 +1,25 @@
+-- `left_by` meets its contract. Assumes nothing.
+use Rattle.kept_states.specs.KeptStates.{left-by}
+use borrow.Author.Needs.{needs}
+use Rattle.kept_states.proofs.left_by.Statement.{statement}
+use Rattle.kept_states.proofs.left_by.Tie as tie
+
+with-state-requires : tie.Need-with-state-requires
+with-state-requires c κs = search needs
+
+number-requires : tie.Need-number-requires
+number-requires c κs = search needs
+
+answered-requires : tie.Need-answered-requires
+answered-requires c κs = search needs
+
+cast-t10 : tie.Need-cast-t10
+cast-t10 c = search needs
+
+returns : tie.Need-returns
+unfolding left-by
+returns c = rw (c .answered .ensures, c .before .number .ensures, c .before .before .before .with-state .ensures)
+
+pub left-by-spec : {M : Type 1} → statement M
+left-by-spec =
+    tie.close (tie.spec with-state-requires number-requires answered-requires cast-t10 returns)

@@ -1,0 +1,3 @@
+pub mod KeptTables
+pub mod Laws
+pub mod Examples
