@@ -1,4 +1,5 @@
 pub mod Database
 pub mod Laws
 pub mod Words
+pub mod Tables
 mod Examples
