@@ -23,6 +23,9 @@ pub record KeptMade : Type 0 where
   pub state : KeptState
   pub store : List ℕ
 
+abbrev pub kept-nucleus : KeptState → ℕ → KeptNucleus
+kept-nucleus state response = record { state = state; response = response }
+
 abbrev pub kept-made : KeptNucleus → List ℕ → KeptMade
 kept-made r store = record { response = r .response; state = r .state; store = store }
 

@@ -2,8 +2,12 @@
 ghost use mathlib.Core.List.{List};
 ghost use mathlib.Core.Path.{_≡_};
 ghost use lib.ListN.{length};
+ghost use Prim.Native.Nat.{_*_, _≤_};
+ghost use Rattle.layout.specs.Layout.{image-length};
+ghost use Rattle.nucleus.specs.Nucleus.{max-capacity};
 ghost use Rattle.entries.specs.declared.Entry.{Entry};
 ghost use Rattle.kept_setup.specs.KeptSetup.{kept-made, kept-set-up, store-bytes, image-bytes};
+use definition::Definition;
 use kept_states::KeptState;
 use nucleus::MAX_CAPACITY;
 use reading::End;
@@ -51,6 +55,13 @@ pub fn store_bytes(table: &[u8]) -> usize
     layout::store_size(d)
 }
 
+fn image_room(d: Definition, capacity: usize) -> usize
+    requires { ⌜ capacity ≤ max-capacity ⌝ }
+    ensures { λ r. ⌜ r ≡ capacity * image-length d ⌝ }
+{
+    capacity * layout::image_length(d)
+}
+
 // The bytes of the image buffer for a table and a capacity; none for a table that set-up refuses as invalid, or a capacity that no queue may have.
 pub fn image_bytes(table: &[u8], capacity: usize) -> usize
     ensures { λ r. ⌜ r ≡ image-bytes capacity (now (table .entry)) ⌝ }
@@ -67,5 +78,5 @@ pub fn image_bytes(table: &[u8], capacity: usize) -> usize
         return 0;
     }
     let d = read.definition;
-    capacity * layout::image_length(d)
+    image_room(d, capacity)
 }

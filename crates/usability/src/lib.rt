@@ -12,7 +12,13 @@ use nucleus::State;
 use shares::Verdict;
 
 // A lent buffer is too short, or the capacity is not one that a queue may have. Of the queue only the number of its entries is looked at.
-pub fn too_short_for(d: Definition, capacity: usize, store: &[u8], entries: usize, images: &[u8]) -> bool
+pub fn too_short_for(
+    d: Definition,
+    capacity: usize,
+    store: &[u8],
+    entries: usize,
+    images: &[u8],
+) -> bool
     ensures { λ r. ⌜ r ≡ too-short-for d capacity (now (store .entry)) entries (now (images .entry)) ⌝ }
 {
     if capacity < 1 {
