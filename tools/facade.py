@@ -585,14 +585,6 @@ module _ {{M : Type 1}} (𝓤 : URA M) (H : Heap 𝓤) (A : Atoms 𝓤) (at-mem 
     fin = [y for r, _ in refs for y in (('obs', r), ('bor', r))] + [('fin', p[0]) for p in muts] + [('κ', i) for i in range(nlft)]
     proof = joined({p[0]: at_z[p[0]] for p in muts})
     V(f'keep ! {ns([V.at(x) for x in fin])} $ by ! (exits {lastr} {" ".join(at_z[p[0]] for p in muts)} ({owed}{path(rplace)}) {" ".join(f"{p[0]}-long" for p in muts)} {proof})')
-    if os.environ.get('CUT'):
-        k = int(os.environ['CUT'])
-        if k == 0: [print(i, t.strip()[:70]) for i, t in enumerate(V.t) if i > 50]
-        import re
-        V.t = V.t[:k]
-        txt = ' '.join(V.t)
-        V.open = txt.count('(') - txt.count(')')
-        V.t.append('?')
     known = ' '.join(f'(known-{s[5]} : Triple 𝓤 (𝓣 .C {key(s[1], s[2])}) (C-{s[5]} 𝓤 H A at-mem run))' for s in steps)
     toks = ' ⊛ '.join([f'‵ (flft {k} {s})' for k, s in zip(κ, q)] + ['‵ ftrue'])
     w(f'''  module _ (𝓣 : Tables 𝓤 H) {known} where
@@ -648,7 +640,7 @@ unfolding code.routine tablesOf
         out.write('\n'.join(o) + '\n')
 
 
-DECLARED = {'KeptState': 'kept_states', 'ControlBlock': 'kept_states', 'Left': 'kept_states', 'Entry': 'entries'}
+DECLARED = {'KeptNucleus': 'kept_setup', 'KeptState': 'kept_states', 'ControlBlock': 'kept_states', 'Left': 'kept_states', 'Entry': 'entries'}
 
 write(
     crate='towungbe', outer='towungbe_call',
@@ -662,4 +654,17 @@ write(
     outer_says='kept-reply (left (r-left .state) (r-left .block) (r-left .response)) store-end queue-end images-end buffer-end'
     ' ≡ kept-call capacity state-at block-at store-at queue-at images-at format-at buffer-at',
     joined=lambda e: 'e-left',
+)
+
+write(
+    crate='towungbe', outer='towungbe_set_up',
+    refs=[('state', 'KeptState')],
+    params=[('capacity', 'uint', 'usize'), ('table', 'shr', 'u8'), ('store', 'mut', 'u8'), ('queue', 'shr', 'Entry'), ('images', 'shr', 'u8')],
+    temps=['store&', 'store&s', 'queue#'],
+    steps=[('main', 'kept_setup', 'kept_set_up', ['capacity', 'table', 'store', '#queue', 'images'], 'KeptNucleus', 'made',
+            lambda a, e: f'(queue : List Entry) → length queue ≡ {a[3]} → kept-made r-made {e["store"]} ≡ kept-set-up {a[0]} store-at queue images-at table-at')],
+    result=('response', 1, 'u32'), stores=[('state', 'state', 0)], declared=DECLARED,
+    cites='use Rattle.kept_setup.specs.KeptSetup.{kept-nucleus, kept-made, kept-set-up}',
+    outer_says='kept-made (kept-nucleus (r-made .state) (r-made .response)) store-end ≡ kept-set-up capacity store-at queue-at images-at table-at',
+    joined=lambda e: '(e-made queue-at refl)',
 )

@@ -19,7 +19,7 @@ use Rattle.direct_calls.specs.Laws.{directly}
 
 -- thawed, called on the words, and what is left
 pub worked : (n : ℕ) (k : KeptState) (b : ControlBlock) (store ws images format buffer : List ℕ) (s : State) (c : Call) (o : Outcome) (l : Left) (store₂ ws₂ images₂ buffer₂ : List ℕ)
-    → s ≡ thawed k → c ≡ call-of b → result (o .answer) (nucleus (o .state) store₂ ws₂ images₂) buffer₂ ≡ on-words n c format buffer (nucleus s store ws images) → l ≡ left-by k b o
+    → s ≡ thawed k → c ≡ call-of b → result (o .answer) (nucleus (o .state) store₂ ws₂ images₂) buffer₂ ≡ on-words n c format buffer (nucleus s store ws images) → l ≡ left-by k b (o .answer) (o .state)
     → kept-result l store₂ ws₂ images₂ buffer₂ ≡ on-kept-words n k b store ws images format buffer
 unfolding on-kept-words
 worked n k b store ws images format buffer s c o l store₂ ws₂ images₂ buffer₂ es ec eo el =

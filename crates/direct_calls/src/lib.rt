@@ -97,7 +97,9 @@ fn on_kept_words(
     let thawed = kept_states::thawed(state);
     let call = kept_states::call_of(block);
     let outcome = on_words(thawed, n, call, store, words, images, format, buffer);
-    kept_states::left_by(state, block, outcome)
+    let answer = outcome.answer;
+    let after = outcome.state;
+    kept_states::left_by(state, block, answer, after)
 }
 
 // One call, for any state, capacity, call and buffers.

@@ -12,7 +12,6 @@ use Rattle.nucleus.specs.Responses.{number}
 use Rattle.nucleus.specs.declared.Answer.{Answer}
 use Rattle.nucleus.specs.declared.Call.{Call}
 use Rattle.nucleus.specs.declared.State.{State}
-use Rattle.calls.specs.declared.Outcome.{Outcome}
 use Rattle.kept_states.specs.declared.KeptState.{KeptState}
 use Rattle.kept_states.specs.declared.ControlBlock.{ControlBlock}
 use Rattle.kept_states.specs.declared.Left.{Left}
@@ -79,5 +78,5 @@ answered response answer b = record {
 abbrev pub number-of : Answer → ℕ
 number-of answer = number (answer .response)
 
-unfoldable pub left-by : KeptState → ControlBlock → Outcome → Left
-left-by k b o = record { state = with-state k (o .state); block = answered (number-of (o .answer)) (o .answer) b; response = number-of (o .answer) }
+unfoldable pub left-by : KeptState → ControlBlock → Answer → State → Left
+left-by k b answer s = record { state = with-state k s; block = answered (number-of answer) answer b; response = number-of answer }

@@ -2,7 +2,6 @@
 // back.
 ghost use mathlib.Core.Path.{_≡_};
 ghost use Rattle.kept_states.specs.KeptStates.{thawed-table, thawed, frozen, with-state, call-of, answered, left-by};
-use calls::Outcome;
 use definition::Definition;
 use definition::MAX_FILES;
 use kept_tables::KeptFile;
@@ -141,12 +140,10 @@ fn answered(mut b: ControlBlock, answer: Answer, response: u16) -> ControlBlock
     b
 }
 
-pub fn left_by(k: KeptState, b: ControlBlock, o: Outcome) -> Left
-    ensures { λ r. ⌜ r ≡ left-by k b o ⌝ }
+pub fn left_by(k: KeptState, b: ControlBlock, answer: Answer, after: State) -> Left
+    ensures { λ r. ⌜ r ≡ left-by k b answer after ⌝ }
 {
-    let after = o.state;
     let state = with_state(k, after);
-    let answer = o.answer;
     let cause = answer.response;
     let number = response_numbers::number(cause);
     let block = answered(b, answer, number);

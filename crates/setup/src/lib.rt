@@ -1,6 +1,7 @@
 // Set-up (document 01, 'Files and their definition'): a definition table is read, and the lent store made empty for it.
 ghost use mathlib.Core.Path.{_≡_};
-ghost use Prim.Native.Nat.{_≤_, _<_};
+ghost use mathlib.Core.List.{List};
+ghost use Prim.Native.Nat.{ℕ, _≤_, _<_};
 ghost use lib.ListN.{length};
 ghost use Rattle.lists.specs.Numbers.{numbers};
 ghost use Rattle.definition.specs.Table.{file-at, file-count, no-definition};
@@ -85,15 +86,15 @@ fn refused(cause: Response) -> Nucleus
     }
 }
 
-// Sets a nucleus up on what is lent: any table, any capacity, any lengths.
-pub fn set_up(
+// Sets a nucleus up on what is lent: any table, any capacity, any lengths. Of the queue only the number of its entries is looked at.
+pub fn set_up_for(
     table: &[u8],
     capacity: usize,
     store: &mut [u8],
-    queue: &[u64],
+    entries: usize,
     images: &[u8],
 ) -> Nucleus
-    ensures { λ r. ⌜ set-up-to r (now (store .exit)) (now (queue .entry)) (now (images .entry)) ≡ set-up capacity (now (store .entry)) (now (queue .entry)) (now (images .entry)) (now (table .entry)) ⌝ }
+    ensures { λ r. ⌜ ((queue : List ℕ) → length queue ≡ entries → set-up-to r (now (store .exit)) queue (now (images .entry)) ≡ set-up capacity (now (store .entry)) queue (now (images .entry)) (now (table .entry))) ⌝ }
 {
     let read = reading::read(table);
     let end = read.end;
@@ -104,7 +105,7 @@ pub fn set_up(
         return refused(Response::DefinitionInvalid);
     }
     let d = read.definition;
-    if usability::too_short(d, capacity, store, queue, images) {
+    if usability::too_short_for(d, capacity, store, entries, images) {
         return refused(Response::BufferTooShort);
     }
     freshen(d, store);
@@ -113,4 +114,16 @@ pub fn set_up(
         response: Response::Good,
         state,
     }
+}
+
+pub fn set_up(
+    table: &[u8],
+    capacity: usize,
+    store: &mut [u8],
+    queue: &[u64],
+    images: &[u8],
+) -> Nucleus
+    ensures { λ r. ⌜ set-up-to r (now (store .exit)) (now (queue .entry)) (now (images .entry)) ≡ set-up capacity (now (store .entry)) (now (queue .entry)) (now (images .entry)) (now (table .entry)) ⌝ }
+{
+    set_up_for(table, capacity, store, queue.len(), images)
 }

@@ -4,15 +4,22 @@ ghost use Rattle.nucleus.specs.Nucleus.{nucleus};
 ghost use Rattle.nucleus.specs.WellMade.{too-short};
 ghost use Rattle.nucleus.specs.Rows.{first-cause, rows-usable};
 ghost use Rattle.shares.specs.Shares.{verdict};
+ghost use Rattle.usability.specs.Sizes.{too-short-for};
 use definition::Definition;
 use nucleus::MAX_CAPACITY;
 use nucleus::Response;
 use nucleus::State;
 use shares::Verdict;
 
-// A lent buffer is too short, or the capacity is not one that a queue may have.
-pub fn too_short(d: Definition, capacity: usize, store: &[u8], queue: &[u64], images: &[u8]) -> bool
-    ensures { λ r. ⌜ r ≡ too-short d capacity (now (store .entry)) (now (queue .entry)) (now (images .entry)) ⌝ }
+// A lent buffer is too short, or the capacity is not one that a queue may have. Of the queue only the number of its entries is looked at.
+pub fn too_short_for(
+    d: Definition,
+    capacity: usize,
+    store: &[u8],
+    entries: usize,
+    images: &[u8],
+) -> bool
+    ensures { λ r. ⌜ r ≡ too-short-for d capacity (now (store .entry)) entries (now (images .entry)) ⌝ }
 {
     if capacity < 1 {
         return true;
@@ -20,13 +27,19 @@ pub fn too_short(d: Definition, capacity: usize, store: &[u8], queue: &[u64], im
     if MAX_CAPACITY < capacity {
         return true;
     }
-    if queue.len() < capacity {
+    if entries < capacity {
         return true;
     }
     if store.len() < layout::store_size(d) {
         return true;
     }
     !slices::blocks_fit(capacity, layout::image_length(d), images.len())
+}
+
+pub fn too_short(d: Definition, capacity: usize, store: &[u8], queue: &[u64], images: &[u8]) -> bool
+    ensures { λ r. ⌜ r ≡ too-short d capacity (now (store .entry)) (now (queue .entry)) (now (images .entry)) ⌝ }
+{
+    too_short_for(d, capacity, store, queue.len(), images)
 }
 
 // The table first, since sizes mean nothing where it is invalid; then the sizes; then the parts of the state.

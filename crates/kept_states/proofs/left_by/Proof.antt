@@ -13,13 +13,13 @@ number-requires c κs = search needs
 answered-requires : tie.Need-answered-requires
 answered-requires c κs = search needs
 
-cast-t10 : tie.Need-cast-t10
-cast-t10 c = search needs
+cast-t9 : tie.Need-cast-t9
+cast-t9 c = search needs
 
 returns : tie.Need-returns
 unfolding left-by
-returns c = rw (c .answered .ensures, c .before .number .ensures, c .before .before .before .with-state .ensures)
+returns c = rw (c .answered .ensures, c .before .number .ensures, c .before .before .with-state .ensures)
 
 pub left-by-spec : {M : Type 1} → statement M
 left-by-spec =
-    tie.close (tie.spec with-state-requires number-requires answered-requires cast-t10 returns)
+    tie.close (tie.spec with-state-requires number-requires answered-requires cast-t9 returns)

@@ -1,0 +1,2 @@
+pub mod KeptSetup
+pub mod Laws
