@@ -2,7 +2,7 @@
 
 use crate::definition;
 use crate::machine::Machine;
-use crate::state::{Answer, Call, Command, COMMANDS};
+use crate::state::{Answer, Call, COMMANDS};
 
 pub const STORE: usize = 32768;
 pub const CAPACITY: u32 = 64;
@@ -105,34 +105,7 @@ fn answer_line(machine: &mut Machine, request: Request) -> String {
     line(&request.call, &answer, &record)
 }
 
-/// "Response, ISN, quantity, sequence, and after a good L1, L4 or RE that wrote something the bytes in capital
-/// hexadecimal without blanks; one blank stands between these parts."
+/// The line of an answer, with the bytes that a good L1, L4 or RE wrote.
 pub fn line(call: &Call, answer: &Answer, record: &[u8]) -> String {
-    let mut line = format!(
-        "{} {} {} {}",
-        answer.response, answer.isn, answer.quantity, answer.sequence
-    );
-    let written = written(call, answer, record);
-    if !written.is_empty() {
-        line.push(' ');
-        line += &hex(written);
-    }
-    line
-}
-
-/// The bytes that a good L1, L4 or RE wrote.
-fn written<'a>(call: &Call, answer: &Answer, record: &'a [u8]) -> &'a [u8] {
-    let writes = matches!(
-        Command::from_code(call.command),
-        Some(Command::L1 | Command::L4 | Command::Re)
-    );
-    if writes && answer.response == 0 {
-        &record[..answer.quantity]
-    } else {
-        &[]
-    }
-}
-
-pub fn hex(bytes: &[u8]) -> String {
-    bytes.iter().map(|byte| format!("{byte:02X}")).collect()
+    call_lists::answer_line(call.command, &(*answer).into(), record)
 }

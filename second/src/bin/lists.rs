@@ -1,9 +1,9 @@
 //! Random call lists as text, one line a call, with the answers of this implementation; or how often each response
 //! comes. The README has the format of the lines.
 
+use call_lists::hex;
 use second::arguments;
 use second::compare::{self, Counts};
-use second::house::hex;
 use second::random::{self, List, ListCall};
 use std::io::{self, Write};
 use std::process::ExitCode;
