@@ -17,7 +17,7 @@ pub struct Outcome {
 }
 
 /// Makes one call.
-pub fn run_call(nucleus: &mut impl Nucleus, call: &Call) -> Outcome {
+pub fn run_call(nucleus: &mut dyn Nucleus, call: &Call) -> Outcome {
     let mut after = call.record.clone();
     let answer = nucleus.answer(call, &mut after);
     Outcome { answer, after }
