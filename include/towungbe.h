@@ -86,7 +86,10 @@ typedef struct {
     bool existed;  /* there was a record before */
 } towungbe_entry;
 
-/* A field of a file, as the table defines it. */
+/*
+ * A field of a file, as the table defines it. Places without a field, behind a count, may have anything; but an unknown
+ * format or option number in any place, also there, makes the state one that is not well made.
+ */
 typedef struct {
     uint8_t first, second; /* the two characters of its name */
     uint8_t length;        /* in bytes */
@@ -96,7 +99,7 @@ typedef struct {
 
 typedef struct {
     uint8_t number;    /* 1 to 16 */
-    uint8_t count;     /* how many fields it has; the places behind them may have anything */
+    uint8_t count;     /* how many fields it has */
     uint16_t max_isn;  /* its highest ISN, 1 to 4095 */
     towungbe_field fields[TOWUNGBE_FIELDS];
 } towungbe_file;
@@ -129,7 +132,7 @@ typedef struct {
  */
 typedef struct {
     uint8_t count;                             /* how many files the table has */
-    towungbe_file files[TOWUNGBE_FILES];       /* in table order; the places behind them may have anything */
+    towungbe_file files[TOWUNGBE_FILES];       /* in table order */
     uint32_t clock;                            /* the greatest that a call has brought */
     towungbe_user users[TOWUNGBE_USERS];       /* user 1 first */
     towungbe_et_data et_data[TOWUNGBE_USERS];  /* user 1 first */
