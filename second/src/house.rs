@@ -13,7 +13,7 @@ const RECORD: usize = 35;
 pub const FORMAT_LENGTH: usize = 12;
 pub const RECORD_LENGTH: usize = 29;
 /// The greatest width is 512, so no table needs more.
-const IMAGES: usize = CAPACITY as usize * definition::MAX_RECORD_LENGTH;
+pub const IMAGES: usize = CAPACITY as usize * definition::MAX_RECORD_LENGTH;
 
 /// The whole output. A bad table, kind, length or cut body ends it with the line `bad`.
 pub fn run(input: &[u8]) -> String {
@@ -34,10 +34,15 @@ pub fn run(input: &[u8]) -> String {
 
 /// Reads the table and sets up; answers the nucleus and the rest of the input.
 fn set_up(input: &[u8]) -> Option<(Machine, &[u8])> {
-    let (table, rest) = input.split_at(definition::table_length(input)?);
+    let (table, rest) = parted(input)?;
     let queue = CAPACITY as usize;
     let machine = Machine::with_sizes(table, CAPACITY, STORE, queue, IMAGES, 0).ok()?;
     Some((machine, rest))
+}
+
+/// The table, and what follows it; none where an item is of an unknown kind or the end is missing.
+pub fn parted(input: &[u8]) -> Option<(&[u8], &[u8])> {
+    Some(input.split_at(definition::table_length(input)?))
 }
 
 pub struct Request<'a> {
@@ -48,7 +53,7 @@ pub struct Request<'a> {
 
 /// "A call is one byte, its place in the table of commands from 1, then 64 bytes." Answers the call and what follows
 /// it; none where it is bad.
-fn read_call(input: &[u8]) -> Option<(Request<'_>, &[u8])> {
+pub fn read_call(input: &[u8]) -> Option<(Request<'_>, &[u8])> {
     let (kind, rest) = input.split_first()?;
     let (_, command) = COMMANDS.get(usize::from(*kind).checked_sub(1)?)?;
     if rest.len() < BODY {

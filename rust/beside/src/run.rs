@@ -4,7 +4,7 @@ use crate::compare::{compare, Both};
 use crate::twin::{self, Twin};
 use second::any_state;
 use second::compare as second_compare;
-use second::definition;
+use second::definition::{self, Definition};
 use second::machine::Machine;
 use second::nucleus;
 use second::random::{self, ListCall, Random};
@@ -129,8 +129,8 @@ fn run_list(seed: u64, counts: &mut Counts) -> Result<(), String> {
     Ok(())
 }
 
-/// Sets the twin up and compares with what the second implementation gave and left of the store.
-fn set_up_both(
+/// Sets the twin up by the library and compares with what the second implementation gave and left of the store.
+pub fn set_up_both(
     table: &[u8],
     twin: &mut Twin,
     expected: Result<&State, u16>,
@@ -212,8 +212,26 @@ fn set_up(random: &mut Random, counts: &mut Counts) -> Result<(), String> {
         false => any_state::table(random),
     };
     let read = definition::read_table(&table);
-    let definition = read.unwrap_or_default();
     let capacity = random.pick(&[0, 1, 2, 3, 5, 256, 257, u32::MAX]);
+    let (mut machine, needed) = lent(random, read.unwrap_or_default(), capacity);
+    if read.is_some() && capacity <= 256 {
+        compare_sizes(&table, capacity as usize, needed)?;
+    }
+    let twin = &mut Twin::of(&machine);
+    let set_up = nucleus::set_up(
+        &table,
+        capacity,
+        &mut machine.store,
+        &mut machine.queue,
+        &mut machine.images,
+    );
+    counts.set_up(set_up.err().unwrap_or(0));
+    let expected = set_up.as_ref().map_err(|response| *response);
+    set_up_both(&table, twin, expected, &machine.store)
+}
+
+/// Buffers for a set-up, each of them now and then too short, and the lengths that it needs.
+fn lent(random: &mut Random, definition: Definition, capacity: u32) -> (Machine, [usize; 3]) {
     let entries = capacity.min(257) as usize;
     let needed = [
         store::store_size(&definition),
@@ -225,31 +243,14 @@ fn set_up(random: &mut Random, counts: &mut Counts) -> Result<(), String> {
         true => needed.saturating_sub(1),
         false => needed + spare,
     });
-    let mut machine = Machine {
+    let machine = Machine {
         state: State::fresh(definition),
         capacity,
         store: vec![second_compare::FILL; store],
         queue: vec![Default::default(); queue],
         images: vec![second_compare::FILL; images],
     };
-    if read.is_some() && capacity <= 256 {
-        compare_sizes(&table, entries, needed)?;
-    }
-    let twin = &mut Twin::of(&machine);
-    let set_up = nucleus::set_up(
-        &table,
-        capacity,
-        &mut machine.store,
-        &mut machine.queue,
-        &mut machine.images,
-    );
-    counts.set_up(set_up.err().unwrap_or(0));
-    set_up_both(
-        &table,
-        twin,
-        set_up.as_ref().map_err(|response| *response),
-        &machine.store,
-    )
+    (machine, needed)
 }
 
 fn compare_sizes(table: &[u8], capacity: usize, needed: [usize; 3]) -> Result<(), String> {

@@ -238,3 +238,21 @@ fn mark(state: &State, file: &File) -> u16 {
         _ => u16::MAX,
     }
 }
+
+#[cfg(test)]
+mod tests {
+    use super::*;
+
+    #[test]
+    fn a_write_behind_a_buffer_is_seen() {
+        let mut guarded = Guarded::new(vec![1, 2, 3], GUARD);
+        guarded.lent()[2] = 4;
+        assert!(guarded.guards_stand());
+        assert_eq!(guarded.items(), [1, 2, 4]);
+        for place in [3, 3 + GUARDS - 1] {
+            let mut written = guarded.clone();
+            written.items[place] = 0;
+            assert!(!written.guards_stand(), "{place}");
+        }
+    }
+}

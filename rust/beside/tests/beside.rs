@@ -101,78 +101,78 @@ fn seen(last: ListCall, tampers: &[Tamper]) {
     }
 }
 
+/// What is changed after a good L4, and what is said of it.
+const AFTER_GOOD: &[Tamper] = &[
+    (
+        |scene| scene.given.answer.sequence = 1,
+        "the answers differ",
+    ),
+    (
+        |scene| scene.given.answer.quantity = 2,
+        "the answers differ",
+    ),
+    (
+        |scene| scene.given.record.lent()[1] = 1,
+        "the record buffers differ",
+    ),
+    (
+        |scene| scene.twin.state.files[9].number = 1,
+        "the kept table is changed",
+    ),
+    (|scene| scene.twin.state.clock = 1, "the states differ"),
+    (|scene| scene.twin.state.entries = 2, "the states differ"),
+    (
+        |scene| scene.twin.state.users[0].sequence = 7,
+        "the states differ",
+    ),
+    (
+        |scene| scene.twin.state.users[0].transaction.begun = 7,
+        "the states differ",
+    ),
+    (
+        |scene| scene.twin.state.users[4].overdue = true,
+        "the states differ",
+    ),
+    (
+        |scene| scene.twin.state.et_data[0].bytes[3] = 7,
+        "the states differ",
+    ),
+    (
+        |scene| scene.twin.state.last_assigned[0] = 2,
+        "the states differ",
+    ),
+    (
+        |scene| scene.twin.state.last_assigned[5] = 2,
+        "the states differ",
+    ),
+    (
+        |scene| scene.twin.state.users[4].hold_limit = 9,
+        "another user is changed",
+    ),
+    (
+        |scene| scene.twin.state.et_data[4].bytes[9] = 9,
+        "another user is changed",
+    ),
+    (|scene| scene.twin.store.lent()[3] = 7, "the stores differ"),
+    (|scene| scene.twin.store.lent()[12] = 7, "the stores differ"),
+    (
+        |scene| scene.twin.queue.lent()[0].changed = false,
+        "the entries in use",
+    ),
+    (
+        |scene| scene.twin.images.lent()[0] = 7,
+        "the entries in use",
+    ),
+    (
+        |scene| scene.twin.queue.lent()[4].user = 7,
+        "more is changed",
+    ),
+    (|scene| scene.twin.images.lent()[8] = 7, "more is changed"),
+];
+
 #[test]
 fn each_difference_after_a_good_call_is_seen() {
-    seen(
-        call(b"L4", b' ', 1, 1, &[0; 3]),
-        &[
-            (
-                |scene| scene.given.answer.sequence = 1,
-                "the answers differ",
-            ),
-            (
-                |scene| scene.given.answer.quantity = 2,
-                "the answers differ",
-            ),
-            (
-                |scene| scene.given.record.lent()[1] = 1,
-                "the record buffers differ",
-            ),
-            (
-                |scene| scene.twin.state.files[9].number = 1,
-                "the kept table is changed",
-            ),
-            (|scene| scene.twin.state.clock = 1, "the states differ"),
-            (|scene| scene.twin.state.entries = 2, "the states differ"),
-            (
-                |scene| scene.twin.state.users[0].sequence = 7,
-                "the states differ",
-            ),
-            (
-                |scene| scene.twin.state.users[0].transaction.begun = 7,
-                "the states differ",
-            ),
-            (
-                |scene| scene.twin.state.users[4].overdue = true,
-                "the states differ",
-            ),
-            (
-                |scene| scene.twin.state.et_data[0].bytes[3] = 7,
-                "the states differ",
-            ),
-            (
-                |scene| scene.twin.state.last_assigned[0] = 2,
-                "the states differ",
-            ),
-            (
-                |scene| scene.twin.state.last_assigned[5] = 2,
-                "the states differ",
-            ),
-            (
-                |scene| scene.twin.state.users[4].hold_limit = 9,
-                "another user is changed",
-            ),
-            (
-                |scene| scene.twin.state.et_data[4].bytes[9] = 9,
-                "another user is changed",
-            ),
-            (|scene| scene.twin.store.lent()[3] = 7, "the stores differ"),
-            (|scene| scene.twin.store.lent()[12] = 7, "the stores differ"),
-            (
-                |scene| scene.twin.queue.lent()[0].changed = false,
-                "the entries in use",
-            ),
-            (
-                |scene| scene.twin.images.lent()[0] = 7,
-                "the entries in use",
-            ),
-            (
-                |scene| scene.twin.queue.lent()[4].user = 7,
-                "more is changed",
-            ),
-            (|scene| scene.twin.images.lent()[8] = 7, "more is changed"),
-        ],
-    );
+    seen(call(b"L4", b' ', 1, 1, &[0; 3]), AFTER_GOOD);
 }
 
 /// What is free after a good call: entries past the count with their images, image bytes past the width, and what
