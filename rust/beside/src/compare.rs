@@ -66,19 +66,22 @@ fn definition_stays(both: &Both) -> bool {
 fn states_equal(both: &Both) -> bool {
     let expected = twin::state(&both.after.state);
     let found = &both.twin.state;
-    let users = expected.users.iter().zip(&found.users);
-    let et_data = expected.et_data.iter().zip(&found.et_data);
+    let users = |state: &raw::State| state.users.map(seen);
     expected.clock == found.clock
         && expected.entries == found.entries
-        && { users }.all(|(expected, found)| seen(expected) == seen(found))
-        && { et_data }.all(|(expected, found)| kept(expected) == kept(found))
+        && users(&expected) == users(found)
+        && expected
+            .et_data
+            .iter()
+            .map(kept)
+            .eq(found.et_data.iter().map(kept))
         && marks_equal(both, &expected)
 }
 
 /// What belongs to no session or to no transaction decides nothing.
-fn seen(user: &raw::User) -> raw::User {
+fn seen(user: raw::User) -> raw::User {
     let mut seen = match user.session {
-        true => *user,
+        true => user,
         false => raw::User::default(),
     };
     seen.transaction = match user.transaction.active {

@@ -166,7 +166,7 @@ pub fn set_up_both(
 fn is_fresh(found: &raw::State, expected: &State) -> bool {
     let expected = twin::state(expected);
     let used = usize::from(expected.count).min(raw::FILES);
-    let files = found.files.iter().zip(&expected.files).take(used);
+    let mut files = found.files.iter().zip(&expected.files).take(used);
     let same_file = |(found, expected): (&raw::File, &raw::File)| {
         let count = usize::from(expected.count).min(raw::FIELDS);
         (found.number, found.count, found.max_isn)
@@ -175,7 +175,7 @@ fn is_fresh(found: &raw::State, expected: &State) -> bool {
     };
     let idle = |user: &raw::User| !user.session && !user.transaction.active && !user.overdue;
     (found.count, found.clock, found.entries) == (expected.count, 0, 0)
-        && { files }.all(same_file)
+        && files.all(same_file)
         && found.users.iter().all(idle)
         && found.et_data.iter().all(|et_data| et_data.length == 0)
         && found.last_assigned[..used].iter().all(|mark| *mark == 0)

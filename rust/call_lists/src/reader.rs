@@ -63,10 +63,11 @@ impl Reader {
             "call" => self.read_calls(place, value),
             "section" | "words" | "table" | "capacity" => {
                 let list = self.list(line)?;
-                match list.lent {
-                    None => read_head(list, key, value),
-                    Some(_) => Err(Wrong::new("a call, for a `list ..` line says all", line)),
+                if list.lent.is_some() || !list.calls.is_empty() {
+                    let expected = "a call, or `example:` or `list:` for another nucleus";
+                    return Err(Wrong::new(expected, line));
                 }
+                read_head(list, key, value)
             }
             _ => {
                 let known = "example, list, section, words, table, capacity or call";

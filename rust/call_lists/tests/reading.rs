@@ -109,7 +109,8 @@ fn a_head_reads_as_what_it_was_made_of() {
 }
 
 /// A line, and what is said of it.
-const BAD: [(&str, &str); 33] = [
+const BAD: [(&str, &str); 34] = [
+    ("example: a\ncall: HI\ncapacity: 3", "a call, or `example:` or `list:` for another nucleus, found capacity: 3"),
     ("call: HI", "a line `list ..` or an item `example:` or `list:` before any other, found HI"),
     ("table: 00", "a line `list ..` or an item `example:` or `list:` before any other, found table: 00"),
     ("nonsense", "a key and a colon, found nonsense"),
@@ -140,7 +141,7 @@ const BAD: [(&str, &str); 33] = [
     ("list seed=1 table=00 capacity=1 store=67108865 queue=1 images=1 fill=00", "store= with a length of at most 67108864, found 67108865"),
     ("list seed=1 table=00 capacity=1 store=1 queue=1 images=1 fill=0000", "fill= with two hexadecimal digits, found 0000"),
     ("list seed=1 table=00 capacity=1 store=1 queue=1 images=1 fill=00 x", "nothing after fill=, found x"),
-    ("list seed=1 table=00 capacity=1 store=1 queue=1 images=1 fill=00\ntable: 00", "a call, for a `list ..` line says all, found table: 00"),
+    ("list seed=1 table=00 capacity=1 store=1 queue=1 images=1 fill=00\ntable: 00", "a call, or `example:` or `list:` for another nucleus, found table: 00"),
     ("list seed=1 table=00 capacity=1 store=1 queue=1 images=1 fill=00\ncall HI command=4E31 option=20 user=1 file=1 isn=0 limit=0 clock=0 format= record=", "-- or the letters of command= as the call's name, found HI"),
     ("list seed=1 table=00 capacity=1 store=1 queue=1 images=1 fill=00\ncall N1 command=4E31 option=20 user=1 file=1 isn=0 limit=0 clock=0 format= record= -> 0 0 0 0", "after=, found nothing"),
 ];
