@@ -2,6 +2,7 @@
 
 use crate::definition;
 use crate::machine::Machine;
+use crate::random::List;
 use crate::state::{Answer, Call, COMMANDS};
 
 pub const STORE: usize = 32768;
@@ -102,6 +103,17 @@ pub fn call_bytes(call: &Call, format: &[u8], record: &[u8]) -> Option<Vec<u8>> 
     bytes.extend(record);
     bytes.resize(1 + BODY, 0);
     Some(bytes)
+}
+
+/// A list as `partycall` reads it: the table, and those of its calls that can be written so.
+pub fn list_bytes(list: &List) -> Vec<u8> {
+    let mut bytes = list.table.clone();
+    let calls = list
+        .calls
+        .iter()
+        .filter_map(|brought| call_bytes(&brought.call, &brought.format, &brought.record));
+    calls.for_each(|call| bytes.extend(call));
+    bytes
 }
 
 fn answer_line(machine: &mut Machine, request: Request) -> String {

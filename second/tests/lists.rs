@@ -54,9 +54,33 @@ fn a_seed_gives_one_list() {
     assert!(one.starts_with("list seed=101 ") && two.ends_with(&one));
 }
 
+/// The bytes are good input, with nearly all calls of the list.
+#[test]
+fn a_list_for_partycall() {
+    let printed = Command::new(env!("CARGO_BIN_EXE_lists"))
+        .args(["--house", "101"])
+        .output()
+        .expect("run")
+        .stdout;
+    let list = second::random::list(101);
+    let lines = second::house::run(&printed);
+    assert!(printed.starts_with(&list.table) && !lines.contains("bad"));
+    let count = lines.lines().count();
+    assert!(
+        (list.calls.len() / 2..=list.calls.len()).contains(&count),
+        "{count}"
+    );
+}
+
 #[test]
 fn bad_arguments_fail() {
-    for arguments in [&[][..], &["x"], &["1", "x"], &["--counts", "1"]] {
+    for arguments in [
+        &[][..],
+        &["x"],
+        &["1", "x"],
+        &["--counts", "1"],
+        &["--house"],
+    ] {
         assert!(!output(arguments).0, "{arguments:?}");
     }
 }

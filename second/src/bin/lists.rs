@@ -1,8 +1,9 @@
 //! Random call lists as text, one line a call, with the answers of this implementation; or how often each response
-//! comes. The README has the format of the lines.
+//! comes; or one list as `partycall` reads it. The README has the format of the lines.
 
 use second::arguments;
 use second::compare::{self, Counts};
+use second::house;
 use second::list_lines::list_text;
 use second::random;
 use std::io::{self, Write};
@@ -10,13 +11,14 @@ use std::process::ExitCode;
 
 type Print = fn(u64, u64) -> Result<(), String>;
 
-const USAGE: &str = "usage: lists SEED [COUNT] | lists --counts FIRST LAST";
+const USAGE: &str = "usage: lists SEED [COUNT] | lists --counts FIRST LAST | lists --house SEED";
 
 fn main() -> ExitCode {
     let arguments: Vec<String> = std::env::args().skip(1).collect();
     let words: Vec<&str> = arguments.iter().map(String::as_str).collect();
     let (print, first, second): (Print, _, _) = match words[..] {
         ["--counts", first, last] => (print_counts, first, last),
+        ["--house", seed] => (print_house, seed, "1"),
         [seed] => (print_lists, seed, "1"),
         [seed, count] => (print_lists, seed, count),
         _ => (print_lists, "", ""),
@@ -37,6 +39,12 @@ fn print_lists(seed: u64, count: u64) -> Result<(), String> {
             .map_err(|error| error.to_string())?;
     }
     Ok(())
+}
+
+fn print_house(seed: u64, _: u64) -> Result<(), String> {
+    let input = house::list_bytes(&random::list(seed));
+    let written = io::stdout().write_all(&input);
+    written.map_err(|error| error.to_string())
 }
 
 /// Checks the lists of these seeds against the journal and prints how often each response came.
