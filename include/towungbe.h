@@ -7,9 +7,9 @@
  *   2. Call towungbe_set_up once.
  *   3. Call towungbe_call for each call of a user.
  *
- * The library allocates nothing, keeps nothing of its own and calls nothing: all that it knows is in the state and in the
- * three buffers that you lend to each call: store, hold queue and images. Give it the same ones each time. To save a
- * nucleus, save these four; to have two, have two of each.
+ * The library allocates nothing, keeps nothing of its own and calls nothing but memcpy and memset: all that it knows is in
+ * the state and in the three buffers that you lend to each call: store, hold queue and images. Give it the same ones each
+ * time. To save a nucleus, save these four; to have two, have two of each.
  *
  * Document 01 says what each call does. That the library does it, for every state, every buffer and every list of calls,
  * is proved: whatever stands in the arguments, each function answers, and touches no byte and no entry past the sizes
@@ -21,6 +21,7 @@
  *     but may not overlap one that is written.
  *   - Two threads in calls with the same state or buffers at once. Use a lock. Threads with a nucleus each need none.
  *   - A bool that is neither 0 nor 1 (by memcpy, a union, or a file that was read into the state or the queue).
+ *   - Too little stack. A call takes some 40 kilobytes of it; let a thread have 64 or more.
  *
  * In these cases anything may happen, as with any C function. Everything else is answered: a state that nobody set up or
  * that was damaged gets 12, short buffers get 11, and unknown numbers in format and option bytes of a kept field get 12.
