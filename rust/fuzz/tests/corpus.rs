@@ -1,6 +1,7 @@
-//! The saved corpus of each target, and a bounded number of changes of each of its inputs.
+//! The saved corpus of each target with the saved lists and vectors, and a bounded number of changes of each input.
 
 use second::random::Random;
+use std::ffi::OsStr;
 use std::fs;
 use std::path::Path;
 
@@ -9,22 +10,21 @@ type Target = fn(&[u8]) -> Result<(), String>;
 /// How many changed inputs are tried for each saved one.
 const CHANGED: usize = 20;
 
-/// The inputs of a corpus, by name.
-fn corpus(name: &str) -> Vec<(String, Vec<u8>)> {
-    let directory = Path::new(env!("CARGO_MANIFEST_DIR"))
-        .join("corpus")
-        .join(name);
-    let entries = fs::read_dir(&directory).expect("a corpus");
-    let mut inputs: Vec<(String, Vec<u8>)> = entries
-        .map(|entry| {
-            let path = entry.expect("entry").path();
+/// The files of a directory, by name, that have this extension or none.
+fn files(directory: &str, extension: Option<&str>) -> Vec<(String, Vec<u8>)> {
+    let directory = Path::new(env!("CARGO_MANIFEST_DIR")).join(directory);
+    let entries = fs::read_dir(&directory).expect("a directory");
+    let mut files: Vec<(String, Vec<u8>)> = entries
+        .map(|entry| entry.expect("entry").path())
+        .filter(|path| path.extension().and_then(OsStr::to_str) == extension)
+        .map(|path| {
             let name = path.display().to_string();
             let input = fs::read(&path).expect(&name);
             (name, input)
         })
         .collect();
-    inputs.sort();
-    inputs
+    files.sort();
+    files
 }
 
 /// One of a few changes that a fuzzer makes, with bytes of another input.
@@ -49,8 +49,7 @@ fn change(random: &mut Random, input: &mut Vec<u8>, other: &[u8]) {
 }
 
 /// Runs each input and its changed ones; the error names the input and has the bytes that were found.
-fn run(name: &str, target: Target) -> Result<usize, String> {
-    let inputs = corpus(name);
+fn run(inputs: &[(String, Vec<u8>)], target: Target) -> Result<(), String> {
     let random = &mut Random::new(1);
     for (place, (path, input)) in inputs.iter().enumerate() {
         target(input).map_err(|error| format!("{path}: {error}"))?;
@@ -67,17 +66,22 @@ fn run(name: &str, target: Target) -> Result<usize, String> {
             })?;
         }
     }
-    Ok(inputs.len())
+    Ok(())
 }
 
 #[test]
 fn house_lists_of_the_corpus() {
-    let inputs = run("house", fuzz::house).expect("no difference");
-    assert!(inputs >= 50, "{inputs} inputs");
+    let mut inputs = files("corpus/house", None);
+    assert!(inputs.len() >= 50, "{} inputs", inputs.len());
+    inputs.extend(files("../../second/lists", None));
+    run(&inputs, fuzz::house).expect("no difference");
 }
 
 #[test]
 fn texts_of_the_corpus() {
-    let inputs = run("text", fuzz::text).expect("no difference");
-    assert!(inputs >= 50, "{inputs} inputs");
+    let mut inputs = files("corpus/text", None);
+    assert!(inputs.len() >= 50, "{} inputs", inputs.len());
+    inputs.extend(files("../../second/lists", Some("txt")));
+    inputs.extend(files("../../second/vectors", Some("txt")));
+    run(&inputs, fuzz::text).expect("no difference");
 }
