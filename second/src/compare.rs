@@ -60,8 +60,11 @@ pub fn machine(list: &List) -> Result<Machine, String> {
     .map_err(|response| format!("set-up answers {response}"))
 }
 
-/// Runs a list: the answer of each call with the record buffer after it, and the nucleus at the end.
-pub fn run(list: &List) -> Result<(Vec<(Answer, Vec<u8>)>, Machine), String> {
+/// The answer of each call with the record buffer after it.
+pub type Answers = Vec<(Answer, Vec<u8>)>;
+
+/// Runs a list; gives its answers and the nucleus at the end.
+pub fn run(list: &List) -> Result<(Answers, Machine), String> {
     let mut machine = machine(list)?;
     let mut answer = |list_call: &ListCall| {
         let mut record = list_call.record.clone();

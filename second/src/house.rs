@@ -2,7 +2,8 @@
 
 use crate::definition;
 use crate::machine::Machine;
-use crate::state::{Answer, Call, Command, COMMANDS};
+use crate::random::List;
+use crate::state::{Answer, Call, COMMANDS};
 
 pub const STORE: usize = 32768;
 pub const CAPACITY: u32 = 64;
@@ -13,7 +14,7 @@ const RECORD: usize = 35;
 pub const FORMAT_LENGTH: usize = 12;
 pub const RECORD_LENGTH: usize = 29;
 /// The greatest width is 512, so no table needs more.
-const IMAGES: usize = CAPACITY as usize * definition::MAX_RECORD_LENGTH;
+pub const IMAGES: usize = CAPACITY as usize * definition::MAX_RECORD_LENGTH;
 
 /// The whole output. A bad table, kind, length or cut body ends it with the line `bad`.
 pub fn run(input: &[u8]) -> String {
@@ -34,10 +35,15 @@ pub fn run(input: &[u8]) -> String {
 
 /// Reads the table and sets up; answers the nucleus and the rest of the input.
 fn set_up(input: &[u8]) -> Option<(Machine, &[u8])> {
-    let (table, rest) = input.split_at(definition::table_length(input)?);
+    let (table, rest) = parted(input)?;
     let queue = CAPACITY as usize;
     let machine = Machine::with_sizes(table, CAPACITY, STORE, queue, IMAGES, 0).ok()?;
     Some((machine, rest))
+}
+
+/// The table, and what follows it; none where an item is of an unknown kind or the end is missing.
+pub fn parted(input: &[u8]) -> Option<(&[u8], &[u8])> {
+    Some(input.split_at(definition::table_length(input)?))
 }
 
 pub struct Request<'a> {
@@ -48,7 +54,7 @@ pub struct Request<'a> {
 
 /// "A call is one byte, its place in the table of commands from 1, then 64 bytes." Answers the call and what follows
 /// it; none where it is bad.
-fn read_call(input: &[u8]) -> Option<(Request<'_>, &[u8])> {
+pub fn read_call(input: &[u8]) -> Option<(Request<'_>, &[u8])> {
     let (kind, rest) = input.split_first()?;
     let (_, command) = COMMANDS.get(usize::from(*kind).checked_sub(1)?)?;
     if rest.len() < BODY {
@@ -99,40 +105,24 @@ pub fn call_bytes(call: &Call, format: &[u8], record: &[u8]) -> Option<Vec<u8>> 
     Some(bytes)
 }
 
+/// A list as `partycall` reads it: the table, and those of its calls that can be written so.
+pub fn list_bytes(list: &List) -> Vec<u8> {
+    let mut bytes = list.table.clone();
+    let calls = list
+        .calls
+        .iter()
+        .filter_map(|brought| call_bytes(&brought.call, &brought.format, &brought.record));
+    calls.for_each(|call| bytes.extend(call));
+    bytes
+}
+
 fn answer_line(machine: &mut Machine, request: Request) -> String {
     let mut record = request.record.to_vec();
     let answer = machine.call(&request.call, request.format, &mut record);
     line(&request.call, &answer, &record)
 }
 
-/// "Response, ISN, quantity, sequence, and after a good L1, L4 or RE that wrote something the bytes in capital
-/// hexadecimal without blanks; one blank stands between these parts."
+/// The line of an answer, with the bytes that a good L1, L4 or RE wrote.
 pub fn line(call: &Call, answer: &Answer, record: &[u8]) -> String {
-    let mut line = format!(
-        "{} {} {} {}",
-        answer.response, answer.isn, answer.quantity, answer.sequence
-    );
-    let written = written(call, answer, record);
-    if !written.is_empty() {
-        line.push(' ');
-        line += &hex(written);
-    }
-    line
-}
-
-/// The bytes that a good L1, L4 or RE wrote.
-fn written<'a>(call: &Call, answer: &Answer, record: &'a [u8]) -> &'a [u8] {
-    let writes = matches!(
-        Command::from_code(call.command),
-        Some(Command::L1 | Command::L4 | Command::Re)
-    );
-    if writes && answer.response == 0 {
-        &record[..answer.quantity]
-    } else {
-        &[]
-    }
-}
-
-pub fn hex(bytes: &[u8]) -> String {
-    bytes.iter().map(|byte| format!("{byte:02X}")).collect()
+    call_lists::answer_line(call.command, &(*answer).into(), record)
 }

@@ -2,7 +2,8 @@
 //! has the notation.
 
 use crate::house;
-use crate::vectors::{self, ExpectedCall};
+use crate::state::Call;
+use call_lists::{number, ListedCall, Wrong};
 
 #[derive(Clone, Debug, PartialEq, Eq)]
 pub struct HouseList {
@@ -24,18 +25,18 @@ struct Reader {
 pub fn read(text: &str) -> Result<Vec<HouseList>, String> {
     let mut lists: Vec<HouseList> = Vec::new();
     let mut reader: Option<Reader> = None;
-    for item in vectors::items(text) {
-        let (place, key, value) = item?;
+    for item in call_lists::items(text) {
+        let (place, key, value) = item.map_err(|bad| bad.to_string())?;
         if key == "list" {
             lists.extend(reader.take().map(|reader| reader.list));
             reader = Some(Reader::new(value));
             continue;
         }
-        let at = |error: String| vectors::at(place, &error);
-        let reader = reader
-            .as_mut()
-            .ok_or_else(|| at("no list yet".to_string()))?;
-        reader.item(place, key, value).map_err(at)?;
+        let read = match &mut reader {
+            Some(reader) => reader.item(place, key, value),
+            None => Err(Wrong::new("an item `list:` before any other", key)),
+        };
+        read.map_err(|wrong| wrong.at(place).to_string())?;
     }
     lists.extend(reader.map(|reader| reader.list));
     Ok(lists)
@@ -54,44 +55,47 @@ impl Reader {
         }
     }
 
-    fn item(&mut self, line: usize, key: &str, value: &str) -> Result<(), String> {
+    fn item(&mut self, line: usize, key: &str, value: &str) -> Result<(), Wrong> {
         match key {
             "words" => Ok(()),
             "table" => self.table(value),
-            "call" => numbered(value)?
+            "call" => call_lists::numbered(value)?
                 .iter()
                 .try_for_each(|text| self.call(line, text)),
             "bad" => self.bad_call(line, value),
-            _ => Err(format!("unknown key {key}")),
+            _ => {
+                let known = "one of the keys list, words, table, call or bad";
+                Err(Wrong::new(known, key))
+            }
         }
     }
 
-    fn table(&mut self, value: &str) -> Result<(), String> {
+    fn table(&mut self, value: &str) -> Result<(), Wrong> {
         if !self.list.input.is_empty() {
-            return Err("a table after calls".to_string());
+            return Err(Wrong::new("one table, before the calls", value));
         }
-        self.list.input = vectors::bytes(value)?;
+        self.list.input = call_lists::bytes(value)?;
         Ok(())
     }
 
     /// The bytes of a call and the line that it prints; a call after bad input prints none.
-    fn call(&mut self, line: usize, text: &str) -> Result<(), String> {
-        let call = vectors::read_call(line, self.user, text)?;
-        if call.expected.is_empty() != self.bad {
-            return Err("an answer is expected just where the input is not yet bad".to_string());
-        }
+    fn call(&mut self, line: usize, text: &str) -> Result<(), Wrong> {
+        let call = read_call(line, self.user, text)?;
         self.user = call.call.user;
         self.list.input.extend(bytes_of(&call)?);
-        if !self.bad {
-            self.print(&call.expected.to_ascii_uppercase());
+        match (call.expected, self.bad) {
+            (Some(expected), false) => self.print(&expected.to_string()),
+            (None, true) => {}
+            (_, false) => return Err(Wrong::new("an answer after ->", text)),
+            (_, true) => return Err(Wrong::new("no answer after `bad:`", text)),
         }
         Ok(())
     }
 
     /// What makes the input bad: the call, with its changed bytes, or where none is named what stands before.
-    fn bad_call(&mut self, line: usize, text: &str) -> Result<(), String> {
+    fn bad_call(&mut self, line: usize, text: &str) -> Result<(), Wrong> {
         if self.bad {
-            return Err("bad twice".to_string());
+            return Err(Wrong::new("`bad:` once in a list", text));
         }
         if !text.is_empty() {
             self.list.input.extend(bad_bytes(line, self.user, text)?);
@@ -107,42 +111,30 @@ impl Reader {
     }
 }
 
-fn bytes_of(call: &ExpectedCall) -> Result<Vec<u8>, String> {
-    house::call_bytes(&call.call, &call.format, &call.record)
-        .ok_or_else(|| "unknown command, or a buffer too long".to_string())
+fn read_call(line: usize, user: u8, text: &str) -> Result<ListedCall, Wrong> {
+    call_lists::read_call(line, user, text).map_err(|bad| bad.wrong)
 }
 
-/// A call with `isn=FIRST..LAST` is one call for each ISN; `ISN` in its answer stands for the ISN.
-fn numbered(text: &str) -> Result<Vec<String>, String> {
-    let range = text
-        .split_whitespace()
-        .filter_map(|word| word.strip_prefix("isn="))
-        .find_map(|word| word.split_once(".."));
-    let Some((first, last)) = range else {
-        return Ok(vec![text.to_string()]);
-    };
-    let word = format!("{first}..{last}");
-    let [first, last]: [u16; 2] = [vectors::number(first)?, vectors::number(last)?];
-    let one = |isn: u16| {
-        text.replace(&word, &isn.to_string())
-            .replace("ISN", &isn.to_string())
-    };
-    Ok((first..=last).map(one).collect())
+fn bytes_of(listed: &ListedCall) -> Result<Vec<u8>, Wrong> {
+    let call = &listed.call;
+    let expected = "a known command and buffers of at most 16 and 35 bytes";
+    house::call_bytes(&Call::from(call), &call.format, &call.record)
+        .ok_or_else(|| Wrong::new(expected, &listed.text))
 }
 
 /// A call's bytes with `kind=N`, `format-length=N` or `record-length=N` put in their place, or cut to `bytes=N`.
-fn bad_bytes(line: usize, user: u8, text: &str) -> Result<Vec<u8>, String> {
+fn bad_bytes(line: usize, user: u8, text: &str) -> Result<Vec<u8>, Wrong> {
     let (changes, words): (Vec<&str>, Vec<&str>) = text
         .split_whitespace()
         .partition(|word| change(word).is_some());
-    let call = vectors::read_call(line, user, &format!("{} ->", words.join(" ")))?;
+    let call = read_call(line, user, &words.join(" "))?;
     let mut bytes = bytes_of(&call)?;
     for (key, value) in changes.into_iter().filter_map(change) {
         match key {
-            "kind" => bytes[0] = vectors::number(value)?,
-            "format-length" => bytes[house::FORMAT_LENGTH] = vectors::number(value)?,
-            "record-length" => bytes[house::RECORD_LENGTH] = vectors::number(value)?,
-            _ => bytes.truncate(vectors::number(value)?),
+            "kind" => bytes[0] = number(value)?,
+            "format-length" => bytes[house::FORMAT_LENGTH] = number(value)?,
+            "record-length" => bytes[house::RECORD_LENGTH] = number(value)?,
+            _ => bytes.truncate(number(value)?),
         }
     }
     Ok(bytes)

@@ -17,6 +17,7 @@ pub mod hold;
 pub mod house;
 pub mod house_lists;
 pub mod journal;
+pub mod list_lines;
 pub mod machine;
 pub mod nucleus;
 pub mod random;

@@ -4,7 +4,7 @@ use crate::definition;
 use crate::hold::Entry;
 use crate::journal::Records;
 use crate::nucleus;
-use crate::state::{Answer, Call, State};
+use crate::state::{Answer, Call, State, MAX_CAPACITY};
 use crate::store;
 
 #[derive(Clone, Debug, PartialEq, Eq)]
@@ -17,9 +17,12 @@ pub struct Machine {
 }
 
 impl Machine {
-    /// Sets up with buffers that are just large enough, all bytes `fill`.
+    /// Sets up with buffers that are just large enough, all bytes `fill`; none are made for a capacity that is refused.
     pub fn new(table: &[u8], capacity: u32, fill: u8) -> Result<Machine, u16> {
         let definition = definition::read_table(table).ok_or(10u16)?;
+        if capacity > MAX_CAPACITY {
+            return Err(11);
+        }
         let image_length = definition.greatest_record_length();
         Machine::with_sizes(
             table,

@@ -3,10 +3,10 @@
 //! No answer shows a file, a user or a clock, so the answers are those of the vector file.
 
 use crate::definition::{self, FIELD_ITEM, FILE_ITEM, MAX_FILES};
-use crate::house::{self, hex};
-use crate::state::{Call, MAX_USERS};
+use crate::house;
+use crate::state::MAX_USERS;
 use crate::store;
-use crate::vectors::{Example, ExpectedCall};
+use call_lists::{hex, Call, Expected, List};
 use std::collections::BTreeMap;
 
 /// A file number that no list defines, for one that an example does not define.
@@ -25,7 +25,7 @@ struct Joined {
 }
 
 /// The sources of the lists, by name: each example that fits is in the first list that has room for it.
-pub fn sources(examples: &[Example]) -> Vec<(String, String)> {
+pub fn sources(examples: &[List]) -> Vec<(String, String)> {
     let mut lists: Vec<Joined> = Vec::new();
     for example in examples.iter().filter(|example| fits(example)) {
         match lists.iter_mut().find(|list| list.has_room(example)) {
@@ -46,12 +46,16 @@ pub fn sources(examples: &[Example]) -> Vec<(String, String)> {
 }
 
 /// Whether `partycall` can be given the example: its capacity, its store, and the lengths of its buffers.
-pub fn fits(example: &Example) -> bool {
+pub fn fits(example: &List) -> bool {
     let calls_fit = example
         .calls
         .iter()
-        .all(|call| house::call_bytes(&call.call, &call.format, &call.record).is_some());
+        .all(|listed| house_bytes(&listed.call).is_some());
     example.capacity == house::CAPACITY && calls_fit && store_size(&example.table).is_some()
+}
+
+fn house_bytes(call: &Call) -> Option<Vec<u8>> {
+    house::call_bytes(&call.into(), &call.format, &call.record)
 }
 
 /// The size of a table's store, if it is valid and not too large.
@@ -77,7 +81,7 @@ fn items(table: &[u8]) -> Vec<&[u8]> {
 }
 
 /// The example's file numbers, and its users, in the order in which they come.
-fn file_numbers(example: &Example) -> Vec<u8> {
+fn file_numbers(example: &List) -> Vec<u8> {
     let items = items(&example.table).into_iter();
     items
         .filter(|item| item[0] == FILE_ITEM)
@@ -85,7 +89,7 @@ fn file_numbers(example: &Example) -> Vec<u8> {
         .collect()
 }
 
-fn users(example: &Example) -> Vec<u8> {
+fn users(example: &List) -> Vec<u8> {
     let mut users = Vec::new();
     for call in &example.calls {
         let is_user = (1..=MAX_USERS).contains(&usize::from(call.call.user));
@@ -103,7 +107,7 @@ fn renumbered(numbers: &[u8], used: usize) -> BTreeMap<u8, u8> {
 }
 
 impl Joined {
-    fn has_room(&self, example: &Example) -> bool {
+    fn has_room(&self, example: &List) -> bool {
         let mut table = self.table.clone();
         table.extend(self.renumbered_table(example));
         table.push(definition::END_ITEM);
@@ -112,7 +116,7 @@ impl Joined {
             && store_size(&table).is_some()
     }
 
-    fn renumbered_table(&self, example: &Example) -> Vec<u8> {
+    fn renumbered_table(&self, example: &List) -> Vec<u8> {
         let files = renumbered(&file_numbers(example), self.files);
         let mut table = Vec::new();
         for item in items(&example.table) {
@@ -125,7 +129,7 @@ impl Joined {
         table
     }
 
-    fn add(&mut self, example: &Example) {
+    fn add(&mut self, example: &List) {
         let files = renumbered(&file_numbers(example), self.files);
         let users = renumbered(&users(example), self.users);
         self.table.extend(self.renumbered_table(example));
@@ -133,17 +137,13 @@ impl Joined {
         self.users += users.len();
         self.calls += &format!("#\n# {}\n", example.name);
         let before = self.clock;
-        for expected in &example.calls {
-            let call = Call {
-                user: *users
-                    .get(&expected.call.user)
-                    .unwrap_or(&expected.call.user),
-                file: *files.get(&expected.call.file).unwrap_or(&NO_FILE),
-                clock: before + expected.call.clock,
-                ..expected.call
-            };
+        for listed in &example.calls {
+            let mut call = listed.call.clone();
+            call.user = *users.get(&call.user).unwrap_or(&call.user);
+            call.file = *files.get(&call.file).unwrap_or(&NO_FILE);
+            call.clock += before;
             self.clock = self.clock.max(call.clock);
-            self.calls += &call_text(&call, expected);
+            self.calls += &call_text(&call, listed.expected.as_ref());
         }
     }
 
@@ -163,7 +163,7 @@ const HEAD: &str = "# Written by `house_lists` from vectors/command-reference.tx
 ";
 
 /// The line of a call, with its answer as the vector file has it.
-fn call_text(call: &Call, expected: &ExpectedCall) -> String {
+fn call_text(call: &Call, expected: Option<&Expected>) -> String {
     let mut words = vec![String::from_utf8_lossy(&call.command).into_owned()];
     words.push(format!("user={}", call.user));
     if call.option != b' ' {
@@ -178,18 +178,16 @@ fn call_text(call: &Call, expected: &ExpectedCall) -> String {
     for (key, number) in numbers.into_iter().filter(|(_, number)| *number > 0) {
         words.push(format!("{key}={number}"));
     }
-    if !expected.format.is_empty() {
-        words.push(format!(
-            "format={}",
-            String::from_utf8_lossy(&expected.format)
-        ));
+    if !call.format.is_empty() {
+        words.push(format!("format={}", String::from_utf8_lossy(&call.format)));
     }
-    match &expected.record[..] {
+    match &call.record[..] {
         [] => {}
         zeros if zeros.iter().all(|byte| *byte == 0) => {
             words.push(format!("length={}", zeros.len()))
         }
         record => words.push(format!("record={}", hex(record))),
     }
-    format!("call: {} -> {}\n", words.join(" "), expected.expected)
+    let expected = expected.map(Expected::to_string).unwrap_or_default();
+    format!("call: {} -> {expected}\n", words.join(" "))
 }

@@ -2,10 +2,10 @@
 
 use crate::definition::{Definition, Field, File};
 use crate::hold::Entry;
-use crate::house::hex;
 use crate::machine::Machine;
 use crate::random::ListCall;
 use crate::state::{Answer, State, User, MAX_ET_DATA};
+use call_lists::hex;
 
 pub fn bytes(bytes: &[u8]) -> String {
     match bytes {

@@ -30,9 +30,8 @@ fn all_calls_answer(machine: &Machine, response: u16) {
     let mut calls: Vec<Call> = GOOD_CALLS
         .iter()
         .map(|text| {
-            vectors::read_call(1, 1, &format!("{text} -> 0"))
-                .expect(text)
-                .call
+            let listed = call_lists::read_call(1, 1, text).expect(text);
+            Call::from(&listed.call)
         })
         .collect();
     let hi = calls[0];
@@ -53,7 +52,7 @@ fn all_calls_answer(machine: &Machine, response: u16) {
 
 /// The machine answers neither 11 nor 12.
 fn goes_on(machine: &Machine) {
-    let hi = vectors::read_call(1, 1, "HI user=2 isn=2 -> 0").expect("call");
+    let hi = call_lists::read_call(1, 1, "HI user=2 isn=2").expect("call");
     let (answer, _, _) = vectors::run_call(&mut machine.clone(), &hi);
     assert!(!matches!(answer.response, 11 | 12), "{answer:?}");
 }

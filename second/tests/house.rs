@@ -233,7 +233,7 @@ fn any_input() {
         let output = run(&input);
         let bad = output.lines().filter(|line| *line == "bad").count();
         assert!(bad == 0 || (bad == 1 && output.ends_with("bad\n")));
-        let whole = input.len() >= 11 && (input.len() - 11) % 65 == 0;
+        let whole = input.len() >= 11 && (input.len() - 11).is_multiple_of(65);
         assert!(bad == 1 || whole, "cut input is bad");
     }
 }

@@ -35,8 +35,9 @@ fn journal_and_nucleus_have_the_same_records() {
 }
 
 mod by_hand {
+    use call_lists::{bytes, read_call};
     use second::journal::Journal;
-    use second::vectors::{bytes, read_call};
+    use second::state::Call;
 
     /// A file with highest ISN 3: AA, 1 byte `A`; PA, 1 byte `P`.
     const TABLE: &str = "01010003 024141014120 025041015020 00";
@@ -46,15 +47,19 @@ mod by_hand {
         let mut journal = Journal::new(&bytes(TABLE).expect("hex")).expect("table");
         let mut user = 1;
         for line in script.lines() {
-            let call = read_call(1, user, line.trim()).expect(line);
-            user = call.call.user;
-            let mut answer = call
-                .expected
-                .split(' ')
-                .map(|word| word.parse().expect(line));
-            let response = answer.next().expect(line);
-            let isn = answer.next().expect(line);
-            journal.feed(&call.call, &call.format, &call.record, response, isn);
+            // The journal is fed the response and the ISN only.
+            let listed = read_call(1, user, &format!("{line} 0 0")).expect(line);
+            let answer = listed.expected.expect(line).answer;
+            let brought = &listed.call;
+            user = brought.user;
+            let call = Call::from(brought);
+            journal.feed(
+                &call,
+                &brought.format,
+                &brought.record,
+                answer.response,
+                answer.isn,
+            );
         }
         journal
     }

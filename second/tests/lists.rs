@@ -1,9 +1,7 @@
 //! The lines of the program `lists` say all that a replay needs.
 
+use call_lists::List;
 use second::machine::Machine;
-use second::state::Call;
-use second::vectors::bytes;
-use std::collections::BTreeMap;
 use std::process::Command;
 
 fn output(arguments: &[&str]) -> (bool, String) {
@@ -15,71 +13,38 @@ fn output(arguments: &[&str]) -> (bool, String) {
     (output.status.success(), text)
 }
 
-/// The `key=value` words of a line.
-fn words(line: &str) -> BTreeMap<&str, &str> {
-    line.split(' ')
-        .filter_map(|word| word.split_once('='))
-        .collect()
-}
-
-fn number<T: std::str::FromStr>(words: &BTreeMap<&str, &str>, key: &str) -> T {
-    words[key].parse().ok().expect(key)
-}
-
-fn set_up(line: &str) -> Machine {
-    let words = words(line);
-    Machine::with_sizes(
-        &bytes(words["table"]).expect("table"),
-        number(&words, "capacity"),
-        number(&words, "store"),
-        number(&words, "queue"),
-        number(&words, "images"),
-        bytes(words["fill"]).expect("fill")[0],
-    )
-    .expect("set-up")
-}
-
-/// Makes the call of a line and gives the line's end as it should be.
-fn replay(machine: &mut Machine, line: &str) -> String {
-    let words = words(line);
-    let hex = |key: &str| bytes(words[key]).expect(key);
-    let call = Call {
-        command: hex("command").try_into().expect("command"),
-        option: hex("option")[0],
-        user: number(&words, "user"),
-        file: number(&words, "file"),
-        isn: number(&words, "isn"),
-        limit: number(&words, "limit"),
-        clock: number(&words, "clock"),
-    };
-    let mut record = hex("record");
-    let answer = machine.call(&call, &hex("format"), &mut record);
-    let after: String = record.iter().map(|byte| format!("{byte:02X}")).collect();
-    format!(
-        "{} {} {} {} after={after}",
-        answer.response, answer.isn, answer.quantity, answer.sequence
-    )
-}
-
 #[test]
 fn lists_can_be_replayed() {
     let (good, text) = output(&["100", "40"]);
     assert!(good);
-    let mut machine: Option<Machine> = None;
-    let mut lists = 0;
-    for line in text.lines() {
-        if line.starts_with("list ") {
-            machine = Some(set_up(line));
-            lists += 1;
-            continue;
-        }
-        let (_, expected) = line.split_once(" -> ").expect(line);
-        let machine = machine.as_mut().expect("a list first");
-        assert_eq!(replay(machine, line), expected, "{line}");
-    }
-    assert_eq!(lists, 40);
-    let calls = text.lines().count() - lists;
+    let lists = call_lists::read(&text).expect("good lines");
+    assert_eq!(lists.len(), 40);
+    let calls: usize = lists.iter().map(|list| list.calls.len()).sum();
+    assert_eq!(calls + lists.len(), text.lines().count());
     assert!((400..=2400).contains(&calls), "{calls} calls");
+    for list in &lists {
+        replay(list);
+    }
+}
+
+/// Runs a list with its lent buffers: every answer and record buffer is as the lines say.
+fn replay(list: &List) {
+    let lent = list.lent.expect("buffers");
+    let mut machine = Machine::with_sizes(
+        &list.table,
+        list.capacity,
+        lent.store,
+        lent.queue,
+        lent.images,
+        lent.fill,
+    )
+    .expect("set-up");
+    for listed in &list.calls {
+        let expected = listed.expected.as_ref().expect("an answer");
+        assert!(expected.after.is_some(), "{}", listed.text);
+        let outcome = call_lists::run_call(&mut machine, &listed.call);
+        assert_eq!(listed.check(&outcome), Ok(()), "{}", listed.text);
+    }
 }
 
 #[test]
@@ -89,9 +54,33 @@ fn a_seed_gives_one_list() {
     assert!(one.starts_with("list seed=101 ") && two.ends_with(&one));
 }
 
+/// The bytes are good input, with nearly all calls of the list.
+#[test]
+fn a_list_for_partycall() {
+    let printed = Command::new(env!("CARGO_BIN_EXE_lists"))
+        .args(["--house", "101"])
+        .output()
+        .expect("run")
+        .stdout;
+    let list = second::random::list(101);
+    let lines = second::house::run(&printed);
+    assert!(printed.starts_with(&list.table) && !lines.contains("bad"));
+    let count = lines.lines().count();
+    assert!(
+        (list.calls.len() / 2..=list.calls.len()).contains(&count),
+        "{count}"
+    );
+}
+
 #[test]
 fn bad_arguments_fail() {
-    for arguments in [&[][..], &["x"], &["1", "x"], &["--counts", "1"]] {
+    for arguments in [
+        &[][..],
+        &["x"],
+        &["1", "x"],
+        &["--counts", "1"],
+        &["--house"],
+    ] {
         assert!(!output(arguments).0, "{arguments:?}");
     }
 }

@@ -408,8 +408,7 @@ fn capacity_of_each_call() {
 fn record_buffer_past_the_quantity() {
     let mut bench = bench();
     bench.run("N1 format=AA. record=31 -> 0 1 0 0");
-    let l1 =
-        second::vectors::read_call(1, 1, "L1 isn=1 format=AA. record=EEDDCC -> 0").expect("call");
+    let l1 = call_lists::read_call(1, 1, "L1 isn=1 format=AA. record=EEDDCC").expect("call");
     let (answer, record, _) = second::vectors::run_call(&mut bench.machine, &l1);
     assert_eq!((answer.quantity, record), (1, vec![0x31, 0xDD, 0xCC]));
 }

@@ -25,7 +25,7 @@ fn check_options(letters: &str, named: &[u8]) {
     let command = Command::from_code(code).expect(letters);
     for option in 0..=255u8 {
         let text = good_call(letters);
-        let mut expected = second::vectors::read_call(1, 1, &format!("{text} -> 0")).expect(text);
+        let mut expected = call_lists::read_call(1, 1, text).expect(text);
         expected.call.option = option;
         let mut bench = bench();
         let (answer, _, _) = second::vectors::run_call(&mut bench.machine, &expected);
@@ -75,8 +75,8 @@ fn check_users(letters: &str) {
         assert_eq!(bench.machine.state.clock, 0, "72 comes before the clock");
     }
     for user in [1, 32] {
-        let text = format!("{call} user={user} -> 0");
-        let expected = second::vectors::read_call(1, 1, &text).expect(call);
+        let text = format!("{call} user={user}");
+        let expected = call_lists::read_call(1, 1, &text).expect(call);
         let mut bench = bench();
         let (answer, _, _) = second::vectors::run_call(&mut bench.machine, &expected);
         assert_ne!(answer.response, 72);
@@ -104,8 +104,8 @@ fn check_mark(letters: &str) {
     let mut expected = marked.clone();
     expected.state.users[0].overdue = false;
     assert_eq!(bench.machine, expected, "only the mark goes");
-    let text = format!("{call} user=1 -> 0");
-    let again = second::vectors::read_call(1, 1, &text).expect(call);
+    let text = format!("{call} user=1");
+    let again = call_lists::read_call(1, 1, &text).expect(call);
     let (answer, _, _) = second::vectors::run_call(&mut bench.machine, &again);
     assert_ne!(answer.response, 9, "the mark is cleared once");
 }
@@ -514,7 +514,7 @@ fn check_limit(call: &str) {
 }
 
 fn response(bench: &mut common::Bench, call: &str) -> u16 {
-    let expected = second::vectors::read_call(1, 1, &format!("{call} -> 0")).expect(call);
+    let expected = call_lists::read_call(1, 1, call).expect(call);
     let (answer, _, _) = second::vectors::run_call(&mut bench.machine, &expected);
     answer.response
 }

@@ -1,7 +1,7 @@
 //! The house call list of document 01, to the byte.
 
+use call_lists::bytes;
 use second::house;
-use second::vectors::bytes;
 
 const OUTPUT: &str = "0 1 0 0
 0 0 1 1

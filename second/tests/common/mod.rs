@@ -61,16 +61,13 @@ impl Bench {
     }
 
     fn call(&mut self, place: usize, line: &str) {
-        let expected = vectors::read_call(place, self.user, line).expect(line);
-        self.user = expected.call.user;
+        let listed = call_lists::read_call(place, self.user, line).expect(line);
+        self.user = listed.call.user;
         let before = self.machine.clone();
-        let (answer, record, got) = vectors::run_call(&mut self.machine, &expected);
-        assert_eq!(got, expected.expected, "line {place}: {line}");
-        let list_call = ListCall {
-            call: expected.call,
-            format: expected.format,
-            record: expected.record,
-        };
+        let (answer, record, got) = vectors::run_call(&mut self.machine, &listed);
+        let expected = listed.expected.expect("an answer").to_string();
+        assert_eq!(got, expected, "line {place}: {line}");
+        let list_call = ListCall::from(&listed.call);
         compare::check_call(&before, &self.machine, &list_call, &answer, &record).expect(line);
     }
 }

@@ -1,0 +1,214 @@
+/*
+ * Towungbe: a record nucleus of users, holds and transactions, for C and C++.
+ *
+ * `rt staticlib towungbe` makes target/staticlib/libtowungbe.a. Link it, include this file, and:
+ *
+ *   1. Ask towungbe_store_size and towungbe_image_size how long the buffers must be, and get them.
+ *   2. Call towungbe_set_up once.
+ *   3. Call towungbe_call for each call of a user.
+ *
+ * The library allocates nothing, keeps nothing of its own and calls nothing but memcpy and memset: all that it knows is in
+ * the state and in the three buffers that you lend to each call: store, hold queue and images. Give it the same ones each
+ * time. To save a nucleus, save these four; to have two, have two of each.
+ *
+ * Document 01 says what each call does. That the library does it, for every state, every buffer and every list of calls,
+ * is proved: whatever stands in the arguments, each function answers, and touches no byte and no entry past the sizes
+ * below. The proof is about a caller who keeps the language's rules. It does not see what only C allows:
+ *
+ *   - A null pointer, or one that does not point to as many bytes or entries as the length beside it says, or that is not
+ *     aligned for its type. A length may be 0; its pointer must then still not be null.
+ *   - Buffers that overlap each other, the state or the block. Buffers that are only read (table, format) may be the same,
+ *     but may not overlap one that is written.
+ *   - Two threads in calls with the same state or buffers at once. Use a lock. Threads with a nucleus each need none.
+ *   - A bool that is neither 0 nor 1 (by memcpy, a union, or a file that was read into the state or the queue).
+ *   - Too little stack. A call takes some 40 kilobytes of it; let a thread have 64 or more.
+ *
+ * In these cases anything may happen, as with any C function. Everything else is answered: a state that nobody set up or
+ * that was damaged gets 12, short buffers get 11, and unknown numbers in format and option bytes of a kept field get 12.
+ */
+#ifndef TOWUNGBE_H
+#define TOWUNGBE_H
+
+#include <stdbool.h>
+#include <stddef.h>
+#include <stdint.h>
+
+#ifdef __cplusplus
+extern "C" {
+#endif
+
+/* Limits. */
+enum {
+    TOWUNGBE_USERS = 32,         /* users are 1 to 32 */
+    TOWUNGBE_FILES = 16,         /* files of a table; their numbers are 1 to 16 */
+    TOWUNGBE_FIELDS = 16,        /* fields of a file */
+    TOWUNGBE_ET_DATA = 64,       /* bytes of ET data that are kept for a user */
+    TOWUNGBE_MAX_CAPACITY = 256  /* entries of the hold queue; at least 1 */
+};
+
+/*
+ * Responses. A call answers the first that applies, in the order of document 01's table, which is not the order of the
+ * numbers. All but 0 come with ISN, quantity and sequence 0.
+ */
+enum {
+    TOWUNGBE_GOOD = 0,              /* the call did what it was asked to */
+    TOWUNGBE_NONE_FOUND = 3,        /* option I finds no record at the given ISN or above it */
+    TOWUNGBE_BACKED_OUT = 9,        /* the user's transaction was backed out: it took too long, or OP or CL came before its end */
+    TOWUNGBE_TABLE_INVALID = 10,    /* the definition table breaks a rule; from set-up only */
+    TOWUNGBE_TOO_SHORT = 11,        /* a lent buffer is too short, or the capacity is not 1 to 256 */
+    TOWUNGBE_NOT_WELL_MADE = 12,    /* the kept state is not well made: no set-up and no call leaves such a state */
+    TOWUNGBE_FILE_UNDEFINED = 17,   /* the file is not defined */
+    TOWUNGBE_COMMAND_UNKNOWN = 22,  /* the command is unknown, or the option is none of this command's */
+    TOWUNGBE_ACCESS_ONLY = 29,      /* the user is access-only: he may call OP, CL, L1 and RE only */
+    TOWUNGBE_FORMAT_INVALID = 41,   /* the format buffer is not NAME,NAME. or names a field that the file does not have */
+    TOWUNGBE_FIELD_TWICE = 44,      /* A1, N1 or N2 names a field twice */
+    TOWUNGBE_HOLD_LIMIT = 47,       /* a new hold is needed, and the user has as many as his hold limit allows */
+    TOWUNGBE_RECORD_BUFFER = 53,    /* the record buffer is shorter than what is named or read, or ET brings over 64 bytes */
+    TOWUNGBE_VALUE_INVALID = 55,    /* a value has a digit or a sign that its format does not allow */
+    TOWUNGBE_QUEUE_FULL = 70,       /* a new hold is needed, and the hold queue is full */
+    TOWUNGBE_USER_INVALID = 72,     /* the user is not 1 to 32 */
+    TOWUNGBE_NO_FREE_ISN = 75,      /* N1 finds no ISN without a record and without a holder */
+    TOWUNGBE_ISN_INVALID = 113,     /* the ISN is 0 or above the highest, or has no record (N2: has one already) */
+    TOWUNGBE_NOT_HELD = 144,        /* the user does not hold the ISN */
+    TOWUNGBE_HELD_BY_ANOTHER = 145, /* another user holds the ISN */
+    TOWUNGBE_CHANGED = 146,         /* RI of a record that the user has changed: ET or BT ends the transaction */
+    TOWUNGBE_VALUE_TAKEN = 198      /* a unique value is taken, by a record or by what another user may still turn back to */
+};
+
+/*
+ * An entry of the hold queue: who holds which ISN. The first state.entries are in use, oldest first; those behind them may
+ * have anything.
+ */
+typedef struct {
+    uint8_t user;  /* 1 to 32 */
+    uint8_t file;  /* the file's number */
+    uint16_t isn;
+    bool changed;  /* the user has changed the record; its image is what it was before, if it existed */
+    bool existed;  /* there was a record before */
+} towungbe_entry;
+
+/*
+ * A field of a file, as the table defines it. Places without a field, behind a count, may have anything; but an unknown
+ * format or option number in any place, also there, makes the state one that is not well made.
+ */
+typedef struct {
+    uint8_t first, second; /* the two characters of its name */
+    uint8_t length;        /* in bytes */
+    uint8_t format;        /* 0 A, bytes; 1 B, binary; 2 U, digits; 3 P, packed */
+    uint8_t option;        /* 0 plain; 1 D, descriptor; 2 U, unique descriptor */
+} towungbe_field;
+
+typedef struct {
+    uint8_t number;    /* 1 to 16 */
+    uint8_t count;     /* how many fields it has */
+    uint16_t max_isn;  /* its highest ISN, 1 to 4095 */
+    towungbe_field fields[TOWUNGBE_FIELDS];
+} towungbe_file;
+
+typedef struct {
+    uint32_t begun; /* the clock at which it began */
+    bool active;
+} towungbe_transaction;
+
+/* A user. What belongs to no session, or to no transaction, means nothing. */
+typedef struct {
+    uint32_t sequence;                /* how many transactions of this session he has ended by ET */
+    towungbe_transaction transaction;
+    uint16_t hold_limit;              /* how many ISNs he may hold */
+    uint16_t time_limit;              /* how many seconds a transaction of his may take */
+    bool session;
+    bool access_only;
+    bool overdue;                     /* he was backed out because of the time limit: his next call is answered 9 */
+} towungbe_user;
+
+/* What a user's last ET with a record buffer left for him. */
+typedef struct {
+    uint8_t length; /* at most 64; 0 for none */
+    uint8_t bytes[TOWUNGBE_ET_DATA];
+} towungbe_et_data;
+
+/*
+ * What is kept between calls, beside the buffers. Read it as you like; towungbe_set_up and towungbe_call write it. A change
+ * of your own is answered 12 where it is not well made, and otherwise believed.
+ */
+typedef struct {
+    uint8_t count;                             /* how many files the table has */
+    towungbe_file files[TOWUNGBE_FILES];       /* in table order */
+    uint32_t clock;                            /* the greatest that a call has brought */
+    towungbe_user users[TOWUNGBE_USERS];       /* user 1 first */
+    towungbe_et_data et_data[TOWUNGBE_USERS];  /* user 1 first */
+    uint16_t last_assigned[TOWUNGBE_FILES];    /* the ISN that N1 last gave, by the file's place in the table; 0 at first */
+    size_t entries;                            /* how many entries of the hold queue are in use */
+} towungbe_state;
+
+/* A call: you fill in the first part; the call fills in the second, whatever its response, and leaves the first. */
+typedef struct {
+    uint8_t command[2]; /* "HI", "RI", "L1", "L4", "A1", "E1", "N1", "N2", "ET", "BT", "RE", "OP" or "CL"; no zero byte after */
+    uint8_t option;     /* ' ', or 'I' (L1, L4), 'H' (A1, E1), 'A' (OP); 0 is no option */
+    uint8_t user;       /* 1 to 32 */
+    uint8_t file;       /* the file's number */
+    uint16_t isn;       /* the record's number in its file; for OP the hold limit, 0 for 64 */
+    uint16_t limit;     /* for OP the time limit in seconds, 0 for 900 */
+    uint32_t clock;     /* the time in seconds; an earlier one than before counts as the one before */
+
+    uint16_t response;     /* one of the responses above */
+    uint16_t answered_isn; /* the ISN read, held, changed, emptied, added or released; otherwise 0 */
+    uint32_t sequence;     /* ET and CL: the user's sequence; otherwise 0 */
+    size_t quantity;       /* L1, L4, RE: bytes written; RI, ET, BT: entries removed; otherwise 0 */
+} towungbe_block;
+
+/*
+ * How many bytes the store of this table needs: each ISN of each file has one byte and the file's fields.
+ */
+size_t towungbe_store_size(const uint8_t *table, size_t table_length);
+
+/*
+ * How many bytes the images need for this table and capacity: for each entry the longest file's fields.
+ */
+size_t towungbe_image_size(const uint8_t *table, size_t table_length, size_t capacity);
+
+/*
+ * Makes a fresh nucleus. Gives 0, 10 (table) or 11 (buffers or capacity).
+ *
+ * After 0 every file is empty, no user has a session and nothing is held. In the store the first byte of each ISN is 0 and
+ * every other byte is as it was; queue and images are only measured. After 10 or 11 the buffers are as they were, and
+ * nothing is set up: calls on the state get 12.
+ *
+ *   state     where to keep the nucleus; it need not be initialised
+ *   capacity  how many entries the hold queue may have, 1 to 256
+ *   table     the definition table: items of one byte of kind and then
+ *               1, a file: number, highest ISN (two bytes, the high one first)
+ *               2, a field of the last file: name (2), length, format (A, B, U, P), option (blank, D, U)
+ *               0, the end
+ *   store     at least towungbe_store_size bytes
+ *   queue     at least capacity entries
+ *   images    at least towungbe_image_size bytes
+ */
+uint32_t towungbe_set_up(towungbe_state *state, size_t capacity,
+                         const uint8_t *table, size_t table_length,
+                         uint8_t *store, size_t store_length,
+                         const towungbe_entry *queue, size_t queue_length,
+                         const uint8_t *images, size_t images_length);
+
+/*
+ * Makes one call. Gives the response, which is in the block too.
+ *
+ *   state, capacity, store, queue, images
+ *             as at set-up. Bytes of the store and of the images, and entries, past the sizes above are never touched.
+ *   format    L1, L4, A1, N1, N2: the fields, as in "RC,HH."; no zero byte counts. Not looked at by other commands.
+ *   record    the record buffer. A1, N1, N2: the values of the named fields, one after another; longer is good.
+ *             L1, L4: they are written here, at the front; it must have room. RE: the ET data, the same.
+ *             ET: 1 to 64 bytes to keep as ET data, or none. Bytes past the quantity keep their values.
+ */
+uint32_t towungbe_call(towungbe_state *state, towungbe_block *block, size_t capacity,
+                       uint8_t *store, size_t store_length,
+                       towungbe_entry *queue, size_t queue_length,
+                       uint8_t *images, size_t images_length,
+                       const uint8_t *format, size_t format_length,
+                       uint8_t *record, size_t record_length);
+
+#ifdef __cplusplus
+}
+#endif
+
+#endif

@@ -1,0 +1,124 @@
+//! A nucleus that owns its buffers.
+
+use crate::raw::{self, Block, Entry, State};
+use crate::{Answer, Call, Response};
+
+/// A record nucleus with its store, hold queue and images.
+#[derive(Clone, Debug)]
+pub struct Nucleus {
+    state: Box<State>,
+    capacity: usize,
+    buffers: Buffers,
+}
+
+/// The buffers that a nucleus works on. Bytes and entries past the sizes that it needs are never touched.
+#[derive(Clone, Debug, Default, PartialEq, Eq)]
+pub struct Buffers {
+    pub store: Vec<u8>,
+    pub queue: Vec<Entry>,
+    pub images: Vec<u8>,
+}
+
+impl Buffers {
+    /// Buffers that are just large enough for a table and a capacity; all bytes 0. Where the capacity is not 1 to 256 the
+    /// queue and the images are empty, for no set-up takes it.
+    pub fn for_table(table: &[u8], capacity: usize) -> Buffers {
+        let entries = match capacity {
+            1..=raw::MAX_CAPACITY => capacity,
+            _ => 0,
+        };
+        Buffers {
+            store: vec![0; raw::store_size(table)],
+            queue: vec![Entry::default(); entries],
+            images: vec![0; raw::image_size(table, entries)],
+        }
+    }
+
+    fn lent(&mut self) -> raw::Lent<'_> {
+        raw::Lent {
+            store: &mut self.store,
+            queue: &mut self.queue,
+            images: &mut self.images,
+        }
+    }
+}
+
+impl Nucleus {
+    /// A fresh nucleus for a definition table, with room for `capacity` held records. The error is
+    /// [`Response::TableInvalid`], or [`Response::TooShort`] where the capacity is not 1 to 256.
+    ///
+    /// ```
+    /// use towungbe::{Nucleus, Response};
+    /// let table = b"\x01\x01\x00\x03\x02RC\x01AU\x02HH\x02A \x00";
+    /// assert!(Nucleus::new(table, 64).is_ok());
+    /// assert_eq!(Nucleus::new(b"nonsense", 64).unwrap_err(), Response::TableInvalid);
+    /// assert_eq!(Nucleus::new(table, 0).unwrap_err(), Response::TooShort);
+    /// ```
+    pub fn new(table: &[u8], capacity: usize) -> Result<Nucleus, Response> {
+        Nucleus::with_buffers(table, capacity, Buffers::for_table(table, capacity))
+    }
+
+    /// The same in buffers of the caller's. Set-up writes 0 in every first byte of an ISN and nothing else.
+    pub fn with_buffers(
+        table: &[u8],
+        capacity: usize,
+        mut buffers: Buffers,
+    ) -> Result<Nucleus, Response> {
+        let mut state = Box::<State>::default();
+        match known(raw::set_up(&mut state, capacity, table, buffers.lent())) {
+            Response::Good => Ok(Nucleus {
+                state,
+                capacity,
+                buffers,
+            }),
+            refused => Err(refused),
+        }
+    }
+
+    /// Makes one call. The record buffer brings values or ET data; L1, L4 and RE write into its front, `quantity` bytes.
+    pub fn call(&mut self, call: &Call, format: &[u8], record: &mut [u8]) -> Answer {
+        let mut block = Block::from(*call);
+        let response = raw::call(
+            &mut self.state,
+            &mut block,
+            self.capacity,
+            self.buffers.lent(),
+            format,
+            record,
+        );
+        Answer {
+            response: known(response),
+            isn: block.answered_isn,
+            quantity: block.quantity,
+            sequence: block.sequence,
+        }
+    }
+
+    /// The entries of the hold queue, oldest first.
+    pub fn entries(&self) -> &[Entry] {
+        let queue = &self.buffers.queue;
+        &queue[..self.state.entries.min(queue.len())]
+    }
+
+    /// What is kept between calls beside the buffers.
+    pub fn state(&self) -> &State {
+        &self.state
+    }
+
+    pub fn capacity(&self) -> usize {
+        self.capacity
+    }
+
+    pub fn buffers(&self) -> &Buffers {
+        &self.buffers
+    }
+}
+
+/// The library has no other responses than document 01.
+fn known(number: u32) -> Response {
+    let response = u16::try_from(number).ok().and_then(Response::from_number);
+    match response {
+        Some(response) => response,
+        None => panic!("libtowungbe.a answers {number}, which is no response: it is not the library of this crate"),
+    }
+}
