@@ -1,17 +1,23 @@
 -- A call on as many entries as fit is the call with the capacity as it came: where that does not fit both are refused alike, and leave all.
+-- And the entries in use are the same as entries and as words.
 -- Assumes nothing.
 use Prim.Native.Nat.{ℕ, _<_, _≤_, _*_}
 use native.Mathlib.Omega.{arith}
 use mathlib.Core.Path.{_≡_, refl, sym, ap, _∙_}
 use mathlib.Core.Bool.{Bool, true, false, not, _||_}
-use mathlib.Core.List.{List, []}
+use mathlib.Core.List.{List, [], _∷_, _++_, map}
 use lib.Dec.{ltb}
-use lib.ListN.{length}
+use lib.ListN.{length, take, drop, length-map, take-append-drop}
+use lib.Seq.{take-take, take-append-le}
 use borrow.Author.Tests.{ltb-false, ltb-true, lt-ltb, le-ltb}
 use Rattle.lists.specs.Tests.{cond, within, within-above, within-below, or-true, Outcome, holds, fails, outcome}
+use Rattle.lists.specs.Folds.{Each, each-take}
+use Rattle.lists.specs.Maps.{take-map}
 use Rattle.layout.specs.Layout.{store-size, image-length}
 use Rattle.definition.specs.declared.Definition.{Definition}
 use Rattle.validity.specs.Validity.{valid}
+use Rattle.entries.specs.Entries.{pack-of, unpack-of, entries}
+use Rattle.entries.specs.Laws.{Shape, unpack-pack, entries-are}
 use Rattle.entries.specs.declared.Entry.{Entry}
 use Rattle.nucleus.specs.Nucleus.{Nucleus, nucleus, Result, max-capacity}
 use Rattle.nucleus.specs.WellMade.{too-short}
@@ -19,7 +25,7 @@ use Rattle.nucleus.specs.Rows.{first-cause, rows-usable}
 use Rattle.nucleus.specs.Step.{refusal, admitted, step}
 use Rattle.nucleus.specs.declared.Call.{Call}
 use Rattle.nucleus.specs.declared.Response.the-variants.{BufferTooShort, StateInvalid}
-use Rattle.database.specs.Database.{Database, fitting, fits, words, in-words}
+use Rattle.database.specs.Database.{Database, fitting, fits, words, in-words, with-words}
 
 -- ---- the capacity that fits
 within-size : (size capacity : ℕ) → cond (ltb size capacity) 0 capacity ≤ size
@@ -63,6 +69,10 @@ module _ (call : Call) (format buffer : List ℕ) (n : Nucleus) where
       go (holds v) = rw (v, short)
       go (fails v) = rw v
 
+  pub invalid-refused : (capacity : ℕ) → valid d ≡ false → step capacity call format buffer n ≡ refusal buffer n StateInvalid
+  unfolding step admitted rows-usable
+  invalid-refused capacity v = rw v
+
 over-most : (d : Definition) (capacity : ℕ) (store queue images : List ℕ) → max-capacity < capacity → too-short d capacity store queue images ≡ true
 unfolding too-short
 over-most d capacity store queue images h = rw (within-above 1 max-capacity capacity h)
@@ -99,3 +109,23 @@ module _ (capacity : ℕ) (call : Call) (format buffer : List ℕ) (b : Database
           let h : 0 < capacity = omega (arith, ltb-true size capacity s) in
           rw (t, s) (none-fit (queue-short (b .state .definition) capacity (b .store) [] (b .images) h))
       go (fails t) (fails s) = rw (t, s)
+
+-- ---- entries and words, where every entry has numbers that fit their bytes
+words-back : (l : List Entry) → Each Shape l → map unpack-of (map pack-of l) ≡ l
+words-back [] s = refl
+words-back (e ∷ l) s = λ i. unpack-pack e (s .0) i ∷ words-back l (s .1) i
+
+-- words that nothing changed come back as they were
+pub entries-back : (k : ℕ) (queue : List Entry) → Each Shape queue → with-words k (words k queue) queue ≡ queue
+entries-back k queue s = ap (λ (l : List Entry). l ++ drop k queue) (words-back (take k queue) (each-take Shape k queue s)) ∙ take-append-drop k queue
+
+-- the entries in use before a call, and after it
+pub entries-in-use : (k count : ℕ) (queue : List Entry) → Each Shape queue → count ≤ k → entries (words k queue) count ≡ take count queue
+entries-in-use k count queue s h =
+    entries-are (words k queue) count ∙ ap (map unpack-of) (take-map pack-of count (take k queue) ∙ ap (map pack-of) (take-take count k queue h))
+    ∙ words-back (take count queue) (each-take Shape count queue s)
+
+pub entries-left : (k count : ℕ) (ws : List ℕ) (queue : List Entry) → count ≤ length ws → take count (with-words k ws queue) ≡ entries ws count
+entries-left k count ws queue h =
+    let room : count ≤ length (map unpack-of ws) = omega (arith, length-map ws unpack-of) in
+    take-append-le count (map unpack-of ws) (drop k queue) room ∙ take-map unpack-of count ws ∙ sym (entries-are ws count)
