@@ -3,7 +3,7 @@
 use Prim.Native.Nat.{ℕ, _<_, _≤_}
 use native.Mathlib.Omega.{arith}
 use mathlib.Core.Path.{_≡_, refl, sym, _∙_}
-use mathlib.Core.Bool.{true, not}
+use mathlib.Core.Bool.{true, false, not}
 use mathlib.Core.List.{List, []}
 use lib.Dec.{ltb}
 use lib.ListN.{length}
@@ -60,6 +60,10 @@ module _ (call : Call) (format buffer : List ℕ) (n : Nucleus) where
       go : Outcome (valid d) → step capacity call format buffer n ≡ turned-down
       go (holds v) = rw (v, short)
       go (fails v) = rw v
+
+  pub invalid-refused : (capacity : ℕ) → valid d ≡ false → step capacity call format buffer n ≡ refusal buffer n StateInvalid
+  unfolding step admitted rows-usable
+  invalid-refused capacity v = rw v
 
 over-most : (d : Definition) (capacity : ℕ) (store queue images : List ℕ) → max-capacity < capacity → too-short d capacity store queue images ≡ true
 unfolding too-short

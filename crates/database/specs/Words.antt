@@ -4,13 +4,13 @@
 use Prim.Native.Nat.{ℕ, _≤_}
 use native.Mathlib.Omega.{arith}
 use mathlib.Core.Path.{_≡_, refl, ap, _∙_}
-use mathlib.Core.List.{List, [], _∷_, map}
+use mathlib.Core.List.{List, [], _∷_, _++_, map}
 use lib.Dec.{ltb}
-use lib.ListN.{length, take, drop, length-map, length-append, length-drop}
+use lib.ListN.{length, take, drop, length-map, length-append, length-drop, take-append-drop}
 use lib.Seq.{take-at, drop-at, take-take}
 use borrow.Author.Tests.{le-ltb}
 use Rattle.lists.specs.Tests.{Outcome, holds, fails, outcome}
-use Rattle.lists.specs.Folds.{Each}
+use Rattle.lists.specs.Folds.{Each, each-take}
 use Rattle.lists.specs.Maps.{take-map}
 use Rattle.entries.specs.Entries.{pack-of, unpack-of, entries}
 use Rattle.entries.specs.Laws.{Shape, unpack-pack, unpack-shape}
@@ -64,6 +64,11 @@ same-entries capacity b shapes most =
     (take-map pack-of (b .state .count) (take (fits capacity (b .queue)) (b .queue))
     ∙ ap (map pack-of) (take-take (b .state .count) (fits capacity (b .queue)) (b .queue) most))
     ∙ read-back (take (b .state .count) (b .queue)) shapes
+
+-- words that nothing changed come back as the entries that they were
+pub entries-back : (k : ℕ) (queue : List Entry) → Each Shape queue → with-words k (words k queue) queue ≡ queue
+entries-back k queue shapes =
+    ap (λ (l : List Entry). l ++ drop k queue) (read-back (take k queue) (each-take Shape k queue shapes)) ∙ take-append-drop k queue
 
 -- ---- what a call left, of as many words as it was given
 module _ (capacity : ℕ) (queue : List Entry) (ws : List ℕ) (whole : length ws ≡ fits capacity queue) where

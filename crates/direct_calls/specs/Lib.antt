@@ -2,3 +2,4 @@ pub mod DirectCalls
 pub mod Kept
 pub mod KeptLaws
 pub mod Laws
+pub mod Promises

@@ -1,2 +1,3 @@
 pub mod KeptStates
 pub mod Laws
+pub mod Examples
