@@ -1,0 +1,2 @@
+pub mod KeptRun
+pub mod Theorem
