@@ -214,10 +214,8 @@ fn set_up(random: &mut Random, counts: &mut Counts) -> Result<(), String> {
     let read = definition::read_table(&table);
     let capacity = random.pick(&[0, 1, 2, 3, 5, 256, 257, u32::MAX]);
     let (mut machine, needed) = lent(random, read.unwrap_or_default(), capacity);
-    if read.is_some() && capacity <= 256 {
-        compare_sizes(&table, capacity as usize, needed)?;
-    }
     let twin = &mut Twin::of(&machine);
+    compare_sizes(&table, twin.capacity, needed)?;
     let set_up = nucleus::set_up(
         &table,
         capacity,
@@ -253,16 +251,18 @@ fn lent(random: &mut Random, definition: Definition, capacity: u32) -> (Machine,
     (machine, needed)
 }
 
+/// The sizes that the library gives: none for a table or a capacity that set-up refuses.
 fn compare_sizes(table: &[u8], capacity: usize, needed: [usize; 3]) -> Result<(), String> {
-    let found = [
-        raw::store_size(table),
-        capacity,
-        raw::image_size(table, capacity),
-    ];
-    match found == needed {
+    let [store, _, images] = needed;
+    let expected = match capacity {
+        1..=raw::MAX_CAPACITY => [store, images],
+        _ => [store, 0],
+    };
+    let found = [raw::store_size(table), raw::image_size(table, capacity)];
+    match found == expected {
         true => Ok(()),
         false => Err(format!(
-            "store, queue and images need {found:?}, the second implementation says {needed:?}"
+            "store and images need {found:?}, the second implementation says {expected:?}"
         )),
     }
 }
