@@ -7,11 +7,14 @@ use second::compare as second_compare;
 use second::definition::{self, Definition};
 use second::machine::Machine;
 use second::nucleus;
-use second::random::{self, ListCall, Random};
+use second::random::{self, List, ListCall, Random};
 use second::state::{Call, State};
 use second::store;
 use std::collections::BTreeMap;
 use towungbe::raw;
+
+/// One seed in so many has a list on a large table too.
+const LARGE: u64 = 8;
 
 /// Calls and set-ups of one seed, beside its list.
 const ANY: usize = 12;
@@ -62,7 +65,11 @@ pub fn run(seed: u64, count: u64) -> Result<Counts, String> {
 }
 
 fn run_seed(seed: u64, counts: &mut Counts) -> Result<(), String> {
-    run_list(seed, counts)?;
+    run_list(&random::list(seed), counts).map_err(|error| format!("list: {error}"))?;
+    if seed.is_multiple_of(LARGE) {
+        run_list(&random::large_list(seed), counts)
+            .map_err(|error| format!("large list: {error}"))?;
+    }
     let random = &mut Random::new(seed);
     for place in 1..=ANY {
         let (mut machine, _) = any_state::machine(random);
@@ -113,10 +120,9 @@ pub fn step(
     })
 }
 
-/// The seed's list, set up by each implementation itself.
-fn run_list(seed: u64, counts: &mut Counts) -> Result<(), String> {
-    let list = random::list(seed);
-    let mut machine = second_compare::machine(&list)?;
+/// A list, set up by each implementation itself.
+fn run_list(list: &List, counts: &mut Counts) -> Result<(), String> {
+    let mut machine = second_compare::machine(list)?;
     let fresh = Machine {
         store: vec![second_compare::FILL; list.store],
         ..machine.clone()
