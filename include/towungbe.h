@@ -158,12 +158,14 @@ typedef struct {
 } towungbe_block;
 
 /*
- * How many bytes the store of this table needs: each ISN of each file has one byte and the file's fields.
+ * How many bytes the store of this table needs: each ISN of each file has one byte and the file's fields. 0 for a table
+ * that set-up answers with 10.
  */
 size_t towungbe_store_size(const uint8_t *table, size_t table_length);
 
 /*
- * How many bytes the images need for this table and capacity: for each entry the longest file's fields.
+ * How many bytes the images need for this table and capacity: for each entry the longest file's fields. 0 for a table that
+ * set-up answers with 10, or a capacity that is not 1 to 256.
  */
 size_t towungbe_image_size(const uint8_t *table, size_t table_length, size_t capacity);
 

@@ -90,10 +90,22 @@ fn options(random: &mut Random) -> [u8; 5] {
 pub fn list(seed: u64) -> List {
     let random = &mut Random::new(seed);
     let table = table(random);
+    let capacity = random.pick(&[1, 2, 3, 4, 5, 6, 8]);
+    list_on(random, seed, table, capacity)
+}
+
+/// A list of a seed on a large table, with room for many holds.
+pub fn large_list(seed: u64) -> List {
+    let random = &mut Random::new(seed);
+    let table = large_table(random);
+    let capacity = random.pick(&[1, 16, 64, 255, 256]);
+    list_on(random, seed, table, capacity)
+}
+
+fn list_on(random: &mut Random, seed: u64, table: Vec<u8>, capacity: u32) -> List {
     let Some(definition) = definition::read_table(&table) else {
         unreachable!("a random table is valid");
     };
-    let capacity = random.pick(&[1, 2, 3, 4, 5, 6, 8]);
     let spare = random.below(3) as usize;
     let mut list = List {
         seed,
@@ -149,6 +161,48 @@ pub fn table(random: &mut Random) -> Vec<u8> {
     }
     table.push(definition::END_ITEM);
     table
+}
+
+/// A valid table of up to 16 files, their numbers falling, with up to 16 fields of any length and up to 4095 ISNs; a
+/// file's part of the store has about 8000 bytes at most.
+pub fn large_table(random: &mut Random) -> Vec<u8> {
+    let mut table = Vec::new();
+    for number in (random.between(1, 16) as u8..=16).rev() {
+        let fields = large_fields(random);
+        let width: u64 = fields.iter().map(|field| u64::from(field[3])).sum();
+        let isns = random.pick(&[1, 5, 255, 256, 4095]).min(8192 / (width + 1)) as u16;
+        let [high, low] = isns.to_be_bytes();
+        table.extend([definition::FILE_ITEM, number, high, low]);
+        table.extend(fields.concat());
+    }
+    table.push(definition::END_ITEM);
+    table
+}
+
+/// The items of up to 16 fields, at most 512 bytes together.
+fn large_fields(random: &mut Random) -> Vec<[u8; 6]> {
+    let mut room = definition::MAX_RECORD_LENGTH as u64;
+    let mut fields = Vec::new();
+    for name in 0..random.pick(&[1, 2, 4, 15, 16]) {
+        let (format, greatest) = random.pick(&[(b'A', 253), (b'B', 126), (b'U', 29), (b'P', 15)]);
+        let wanted = match random.once_in(3) {
+            true => greatest,
+            false => random.between(1, greatest),
+        };
+        // Each of the fields that may follow needs a byte.
+        let length = wanted.min(room - (15 - name as u64));
+        room -= length;
+        let option = random.pick(b"U D ");
+        fields.push([
+            definition::FIELD_ITEM,
+            b'A',
+            b'A' + name,
+            length as u8,
+            format,
+            option,
+        ]);
+    }
+    fields
 }
 
 fn list_call(random: &mut Random, machine: &Machine, users: u64, clock: &mut u32) -> ListCall {

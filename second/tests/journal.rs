@@ -1,6 +1,7 @@
 //! Requirement 3 by random lists, and the journal itself by hand.
 
 use second::compare::{self, Counts, REACHED};
+use second::definition;
 use second::random;
 
 const LISTS: u64 = 40_000;
@@ -32,6 +33,30 @@ fn journal_and_nucleus_have_the_same_records() {
         assert!(counts.contains_key(label), "{label} never came");
     }
     assert_eq!(counts.len(), REACHED.len(), "{counts:?}");
+}
+
+/// The same on large tables: some are at the limits of files, fields, width and ISNs, and records are changed in them.
+#[test]
+fn journal_and_nucleus_on_large_tables() {
+    let mut counts = Counts::new();
+    let mut greatest = [0; 4];
+    for seed in 1..=150 {
+        let list = random::large_list(seed);
+        compare::check_list(&list, &mut counts).expect("equal");
+        let definition = definition::read_table(&list.table).expect("valid");
+        for file in definition.used_files() {
+            let sizes = [
+                usize::from(definition.count),
+                usize::from(file.count),
+                file.record_length(),
+                usize::from(file.max_isn),
+            ];
+            greatest = std::array::from_fn(|place| greatest[place].max(sizes[place]));
+        }
+    }
+    println!("{}", compare::counts_text(&counts));
+    assert_eq!(greatest, [16, 16, 512, 4095]);
+    assert!(counts["0"] > 1000 && counts["198"] > 20, "{counts:?}");
 }
 
 mod by_hand {

@@ -7,11 +7,14 @@ use second::compare as second_compare;
 use second::definition::{self, Definition};
 use second::machine::Machine;
 use second::nucleus;
-use second::random::{self, ListCall, Random};
+use second::random::{self, List, ListCall, Random};
 use second::state::{Call, State};
 use second::store;
 use std::collections::BTreeMap;
 use towungbe::raw;
+
+/// One seed in so many has a list on a large table too.
+const LARGE: u64 = 8;
 
 /// Calls and set-ups of one seed, beside its list.
 const ANY: usize = 12;
@@ -62,7 +65,11 @@ pub fn run(seed: u64, count: u64) -> Result<Counts, String> {
 }
 
 fn run_seed(seed: u64, counts: &mut Counts) -> Result<(), String> {
-    run_list(seed, counts)?;
+    run_list(&random::list(seed), counts).map_err(|error| format!("list: {error}"))?;
+    if seed.is_multiple_of(LARGE) {
+        run_list(&random::large_list(seed), counts)
+            .map_err(|error| format!("large list: {error}"))?;
+    }
     let random = &mut Random::new(seed);
     for place in 1..=ANY {
         let (mut machine, _) = any_state::machine(random);
@@ -113,10 +120,9 @@ pub fn step(
     })
 }
 
-/// The seed's list, set up by each implementation itself.
-fn run_list(seed: u64, counts: &mut Counts) -> Result<(), String> {
-    let list = random::list(seed);
-    let mut machine = second_compare::machine(&list)?;
+/// A list, set up by each implementation itself.
+fn run_list(list: &List, counts: &mut Counts) -> Result<(), String> {
+    let mut machine = second_compare::machine(list)?;
     let fresh = Machine {
         store: vec![second_compare::FILL; list.store],
         ..machine.clone()
@@ -214,10 +220,8 @@ fn set_up(random: &mut Random, counts: &mut Counts) -> Result<(), String> {
     let read = definition::read_table(&table);
     let capacity = random.pick(&[0, 1, 2, 3, 5, 256, 257, u32::MAX]);
     let (mut machine, needed) = lent(random, read.unwrap_or_default(), capacity);
-    if read.is_some() && capacity <= 256 {
-        compare_sizes(&table, capacity as usize, needed)?;
-    }
     let twin = &mut Twin::of(&machine);
+    compare_sizes(&table, twin.capacity, needed)?;
     let set_up = nucleus::set_up(
         &table,
         capacity,
@@ -253,16 +257,18 @@ fn lent(random: &mut Random, definition: Definition, capacity: u32) -> (Machine,
     (machine, needed)
 }
 
+/// The sizes that the library gives: none for a table or a capacity that set-up refuses.
 fn compare_sizes(table: &[u8], capacity: usize, needed: [usize; 3]) -> Result<(), String> {
-    let found = [
-        raw::store_size(table),
-        capacity,
-        raw::image_size(table, capacity),
-    ];
-    match found == needed {
+    let [store, _, images] = needed;
+    let expected = match capacity {
+        1..=raw::MAX_CAPACITY => [store, images],
+        _ => [store, 0],
+    };
+    let found = [raw::store_size(table), raw::image_size(table, capacity)];
+    match found == expected {
         true => Ok(()),
         false => Err(format!(
-            "store, queue and images need {found:?}, the second implementation says {needed:?}"
+            "store and images need {found:?}, the second implementation says {expected:?}"
         )),
     }
 }

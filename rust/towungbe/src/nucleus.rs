@@ -30,7 +30,7 @@ impl Buffers {
         Buffers {
             store: vec![0; raw::store_size(table)],
             queue: vec![Entry::default(); entries],
-            images: vec![0; raw::image_size(table, entries)],
+            images: vec![0; raw::image_size(table, capacity)],
         }
     }
 

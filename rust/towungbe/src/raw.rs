@@ -217,13 +217,13 @@ pub fn call(
     }
 }
 
-/// The bytes that a table's store needs.
+/// The bytes that a table's store needs; 0 for a table that set-up refuses.
 pub fn store_size(table: &[u8]) -> usize {
     // SAFETY: the pointer is valid for the count, and nothing is written.
     unsafe { c::towungbe_store_size(table.as_ptr(), table.len()) }
 }
 
-/// The bytes that a table's images need for a capacity.
+/// The bytes that a table's images need for a capacity; 0 for a table or a capacity that set-up refuses.
 pub fn image_size(table: &[u8], capacity: usize) -> usize {
     // SAFETY: the pointer is valid for the count, and nothing is written.
     unsafe { c::towungbe_image_size(table.as_ptr(), table.len(), capacity) }
