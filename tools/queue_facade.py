@@ -12,11 +12,13 @@
 #
 # State and Outcome are any structs of plain data. capacity is the first parameter after the state, and INNER has n there. words_out and words_in are
 # those of this crate, with their proofs. The ensures of INNER is one clause, and so is that of OUTER; a law makes the second of the first. Neither
-# has a requires. The script computes each position of the context as it goes (the class Walk), so that nothing is counted by hand.
+# has a requires. The script computes each position of the context as it goes (tools/walk.py), so that nothing is counted by hand.
 # What to change for another function stands between the two rules.
 # ------------------------------------------------------------------------------------------------------------------------------------------
 import os
 import sys
+sys.dont_write_bytecode = True
+from walk import U0, SUBS as subs, BUILTIN, Walk, den, kebab, ns, opds, path, row, sub, tup
 crate, outer, fitting = 'direct_calls', sys.argv[1], 'fitting'
 inner = {'direct_call': 'on_words', 'kept_call': 'on_kept_words'}[outer]
 # the call's argument, and the crate and the type that State, Outcome and the argument's type stand for
@@ -57,18 +59,9 @@ use Rattle.direct_calls.specs.KeptLaws.{kept-directly}'''}[outer] + '''
 use Rattle.entries.specs.Entries.{unpack-of}
 use Rattle.database.specs.Laws.{fitting-size, fitting-most}'''
 # ------------------------------------------------------------------------------------------------------------------------------------------
-BUILTIN = {'u8': 'w8', 'u64': 'w64', 'usize': 'w64'}
-subs = '₀₁₂₃₄₅₆₇₈₉'
-def kebab(s): return s.replace('_', '-')
 def mod(t, side, rest):
     c, name = declared[t]
     return f'Rattle.{c}' + (f'·{side}.{side}' if c == crate else f'.{side}') + rest.format(name)
-def row(t): return t if t in BUILTIN else f'{t}-type.the-row'
-def den(t): return 'ℕ' if t in BUILTIN else t
-def tup(l): return '(' + ', ('.join(l) + ', tt' + ')' * len(l) if l else 'tt'
-def ns(l): return '(' + ' ∷ '.join(map(str, l)) + ' ∷ [])'
-def path(i): return ' .1' * i + ' .0'
-def sub(k): return 'l' + ''.join(subs[int(c)] for c in str(k))
 slices = [p for p in params if p[1] in ('mut', 'shr', 'queue')]
 muts = [p for p in params if p[1] == 'mut']
 names = [p[0] for p in params]
@@ -89,27 +82,6 @@ for p in params:
 for a in ('q2', 'w3'): loc[a], loc[a + 's'] = nxt, nxt + 1; nxt += 2
 N = nxt
 
-class Walk:
-    """A context, as names, and the steps of a walk over it."""
-    def __init__(self, ctx): self.c, self.t = list(ctx), []
-    def __call__(self, s): self.t.append(s)
-    def at(self, x):
-        assert self.c.count(x) == 1, (x, self.c)
-        return self.c.index(x)
-    def L(self, x): return self.at(('L', loc[x]))
-    def move(self, *xs):
-        i = [self.at(x) for x in xs]
-        if i != list(range(len(i))): self(f'move ! {ns(i)} $')
-        self.c = list(xs) + [y for y in self.c if y not in xs]
-    def drop(self, x): self.move(x); self('drop !  $'.replace('  ', ' ')); self.c.pop(0)
-    def split(self, x, l, f='split'): self.move(x); self(f'{f} ! $'); self.c[0:1] = l
-    def join(self, l, x, f='join'): self.move(*l); self(f'{f} ! $'); self.c[0:2] = [x]
-    def add(self, x, s): self(s); self.c.insert(0, x)
-    def init(self, x, wt): return f'(init ! {self.L(x)} refl {wt})'
-    def load(self, x): return f'(load ! (from ! (stop !)) (look ! {self.L(x)} refl))'
-    def set(self, rv, x, wt): self(f'assigns ! {rv} (from ! (stop !)) {self.init(x, wt)} $')
-
-def opds(l): return '(' + ''.join(f'and-then ! {x} (' for x in l) + 'no-more !' + ')' * len(l) + ')'
 def rt(p, ν=None):
     if p[1] == 'queue' and ν: return f'MutSlice (named {lft[p[0]]}) ({ν} ∷ []) u64'
     if p[1] in ('mut', 'queue'): return f'MutSlice (named {lft[p[0]]}) {κ[lft[p[0]]]} {row(p[2])}'
@@ -132,7 +104,6 @@ def goes(p):
     if p[1] == 'shr': return f'goes-dropped 𝓤 H A W {nlft} (shrSliceOf ({lft[p[0]]} ∷ []) tt ({slot(p)})) yes (λ κs x f. refl)'
     return f'goes-dropped 𝓤 H A W {nlft} ({slot(p)}) yes (λ κs x f. refl)'
 def lfts(l): return '(' + ', ('.join(l) + ', tt' + ')' * len(l)
-U0 = 'Unit {0}'
 uses = sorted({p[2] for p in params if p[2] not in BUILTIN} | {'State', 'Outcome'})
 P = f'Rattle.{crate}.proofs'
 K = lambda f: f'#{crate}·{kebab(f)}'
@@ -357,7 +328,7 @@ w(f'''  goes-callee : (p ν : ℕ) (δ : GName) (ws : List ℕ) (n : ℕ) → n 
   long-in n ws len in-q in-w = front-length unpack-of n ws queue-at (subst (λ (m : ℕ). n ≤ m) (sym len) in-w) in-q
 ''')
 # ---- the walk
-V = Walk(['toks', 'owns'])
+V = Walk(['toks', 'owns'], loc)
 tk = 'toks'
 for i in range(jq): V.split(tk, [('κ', i), ('t', i)]); tk = ('t', i)
 V.split(tk, ['κq', 'tokpost'])

@@ -1,2 +1,3 @@
 pub mod KeptSetup
 pub mod Laws
+pub mod Examples
