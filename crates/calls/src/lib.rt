@@ -148,7 +148,7 @@ fn perform(
             let width = layout::image_length(d);
             backing_out::bt(call, d, width, share, store, queue, images)
         }
-        Command::Re => session_commands::re(share, buffer),
+        Command::Re => user_data::re(share, buffer),
         Command::Op => session_commands::op(call, share),
         Command::Cl => session_commands::cl(share),
         Command::Ri => ri(

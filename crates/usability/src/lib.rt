@@ -68,7 +68,7 @@ pub fn usable(state: State, capacity: usize, store: &[u8], queue: &[u64], images
         return Verdict::Refused(Response::StateInvalid);
     }
     let assigned = state.last_assigned;
-    if !well_made::assigned_made(d, assigned) {
+    if !assigned_isns::assigned_made(d, assigned) {
         return Verdict::Refused(Response::StateInvalid);
     }
     let et_data = state.et_data;

@@ -1,13 +1,12 @@
 -- What the loops over parts of a state go by: one turn and the end of each.
 -- Assumes nothing.
 use Prim.Native.Nat.{ℕ, _+_, _≤_, _<_}
-use mathlib.Core.Path.{_≡_, refl}
+use mathlib.Core.Path.{_≡_}
 use mathlib.Core.Bool.{Bool, true, false}
-use mathlib.Core.List.{List, [], _∷_}
+use mathlib.Core.List.{List}
 use lib.ListN.{length, drop, getD, drop-of-length-le}
 use Rattle.lists.specs.Folds.{all}
 use Rattle.lists.specs.Rest.{drop-more}
-use Rattle.nucleus.specs.WellMade.{assigned-made}
 
 -- ---- a test of every element
 module _ {A : Type 0} (p : A → Bool) (l : List A) (i : ℕ) (d : A) where
@@ -19,8 +18,3 @@ module _ {A : Type 0} (p : A → Bool) (l : List A) (i : ℕ) (d : A) where
 
   pub all-passed : length l ≤ i → all p (drop i l) ≡ true
   all-passed h = rw (drop-of-length-le l h)
-
--- ---- N1's marks beside no files
-pub assigned-none : (isns : List ℕ) → assigned-made isns [] ≡ true
-assigned-none [] = refl
-assigned-none (isn ∷ isns) = refl

@@ -1,10 +1,7 @@
-// Whether the parts of a kept state are well made (document 01, below the table of responses), each part by itself: users, N1's marks, ET data.
+// Whether the parts of a kept state are well made (document 01, below the table of responses), each part by itself: users, ET data.
 ghost use mathlib.Core.Path.{_≡_};
 ghost use Rattle.lists.specs.Folds.{all};
-ghost use Rattle.definition.specs.Table.{files-of};
-ghost use Rattle.nucleus.specs.WellMade.{user-made, data-made, assigned-made};
-use definition::Definition;
-use definition::MAX_FILES;
+ghost use Rattle.nucleus.specs.WellMade.{user-made, data-made};
 use nucleus::EtData;
 use nucleus::MAX_ET_DATA;
 use nucleus::MAX_USERS;
@@ -51,23 +48,6 @@ pub fn data_made(et_data: [EtData; MAX_USERS]) -> bool
     while i < MAX_USERS {
         let n = wide(et_data[i].length);
         if MAX_ET_DATA < n {
-            return false;
-        }
-        i += 1;
-    }
-    true
-}
-
-// N1's marks are at most the highest ISN of their files.
-pub fn assigned_made(d: Definition, assigned: [u16; MAX_FILES]) -> bool
-    ensures { λ r. ⌜ r ≡ assigned-made assigned (files-of d) ⌝ }
-{
-    let n = definition::file_count(d);
-    let mut i = 0;
-    while i < n {
-        let max_isn = d.files[i].max_isn;
-        let isn = assigned[i];
-        if max_isn < isn {
             return false;
         }
         i += 1;

@@ -1,8 +1,9 @@
--- `assigned_made` meets its contract, as `users_made` does.
+-- `assigned_made` meets its contract. The loop's invariant: what is judged in all is judged from here on.
 -- Assumes nothing.
 use Prim.Native.Nat.{ℕ, _+_, _-_, _≤_, _<_}
-use mathlib.Core.Path.{_≡_, sym, _∙_}
+use mathlib.Core.Path.{_≡_, refl, sym, _∙_}
 use mathlib.Core.Bool.{Bool, true, false, _&&_}
+use mathlib.Core.List.{List, [], _∷_}
 use lib.Dec.{leb}
 use lib.ListN.{length, drop, getD}
 use borrow.Author.Tests.{le-leb, lt-leb}
@@ -11,11 +12,15 @@ use Rattle.definition.specs.Table.{beyond, files-of, file-count}
 use Rattle.definition.specs.Shape.{file-next, no-file-left}
 use Rattle.definition.proofs.Known.{definition-known}
 use Rattle.nucleus.specs.WellMade.{assigned-made}
-use Rattle.well_made.specs.Turns.{assigned-none}
 use native.Mathlib.Omega.{arith}
 use borrow.Author.Needs.{needs}
-use Rattle.well_made.proofs.assigned_made.Statement.{statement}
-use Rattle.well_made.proofs.assigned_made.Tie as tie
+use Rattle.assigned_isns.proofs.assigned_made.Statement.{statement}
+use Rattle.assigned_isns.proofs.assigned_made.Tie as tie
+
+-- no file is left
+assigned-none : (isns : List ℕ) → assigned-made isns [] ≡ true
+assigned-none [] = refl
+assigned-none (isn ∷ isns) = refl
 
 abbrev Inv-loop : tie.InvT-loop
 Inv-loop d assigned n i₀ i = (i ≤ n) × (assigned-made assigned (files-of d) ≡ assigned-made (drop i assigned) (drop i (files-of d)))

@@ -1,8 +1,8 @@
 -- `re` meets its contract. Assumes nothing.
 use borrow.Author.Tests.{lt-ltb, le-ltb}
 use borrow.Author.Needs.{needs}
-use Rattle.session_commands.proofs.re.Statement.{statement}
-use Rattle.session_commands.proofs.re.Tie as tie
+use Rattle.user_data.proofs.re.Statement.{statement}
+use Rattle.user_data.proofs.re.Tie as tie
 
 cast-n : tie.Need-cast-n
 cast-n c = search needs

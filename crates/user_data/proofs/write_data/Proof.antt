@@ -11,8 +11,8 @@ use Rattle.slices.specs.Laws.{copied-whole}
 use Rattle.nucleus.specs.Nucleus.{max-et-data}
 use Rattle.nucleus.proofs.Known.{data-places}
 use borrow.Author.Needs.{needs}
-use Rattle.session_commands.proofs.write_data.Statement.{statement}
-use Rattle.session_commands.proofs.write_data.Tie as tie
+use Rattle.user_data.proofs.write_data.Statement.{statement}
+use Rattle.user_data.proofs.write_data.Tie as tie
 
 -- how many bytes there are, and that those which are written lie within them and within the buffer
 places : (c : tie.After-least) → length (c .before .before .before .args .held .bytes) ≡ max-et-data
