@@ -57,7 +57,7 @@ module _ (capacity : ℕ) where
       let w = called capacity (given-in g) (world k j) in
       let r = reply-is capacity g k in
       let told : Answered = record { given = given-in g; response = number (r .answer .response); isn = r .answer .isn } in
-      ap (λ (as : List Answered). told ∷ as)
+      ap (λ (rest : List Answered). told ∷ rest)
       (answers-are gs (kept-after (replied capacity g k)) (w .journal)
       ∙ ap (λ (b : Database). answers capacity (map given-in gs) (record { database = b; journal = w .journal })) (after-is capacity g k))
 
@@ -111,7 +111,7 @@ module _ (capacity : ℕ) (table store : List ℕ) (queue : List Entry) (images 
 
     journal-is : kept-journal capacity calls start ≡ w .journal
     journal-is =
-        ap (λ (as : List Answered). fed-all as new-journal) (answers-are capacity calls start new-journal ∙ ap (answers capacity (map given-in calls)) begun-is)
+        ap (λ (all-told : List Answered). fed-all all-told new-journal) (answers-are capacity calls start new-journal ∙ ap (answers capacity (map given-in calls)) begun-is)
         ∙ sym (journal-of-answers capacity (map given-in calls) (begin capacity store queue images table))
 
     -- and after the BTs
