@@ -17,7 +17,7 @@ use nucleus::MAX_CAPACITY;
 use nucleus::State;
 
 // The entries that a call works on: the capacity, or none where that is more than a queue may have or than this one has. No call is served then.
-pub fn fitting(capacity: usize, size: usize) -> usize
+fn fitting(capacity: usize, size: usize) -> usize
     ensures { λ r. ⌜ r ≡ fitting capacity size ⌝ }
 {
     if MAX_CAPACITY < capacity {
