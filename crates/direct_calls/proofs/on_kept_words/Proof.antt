@@ -30,7 +30,7 @@ same-length-4 c = search needs
 
 returns : tie.Need-returns
 returns c =
-    let o = c .before .before .before .before .before .before .before .before .before in
+    let o = c .before .before .before .before .before .before .before .before .before .before .before in
     let k = o .before .before .before .before .before in
     let t = k .before in
     let a = t .before .before .before .before .before .before .args in
