@@ -12,8 +12,7 @@ fn first_file(table: &[u8]) -> File {
 
 // A format buffer with so much room for its values: 41; or the bytes that its fields take, 53 where those are more than the room; and 44 behind
 // where writing by it would name a field twice.
-fn judge(table: &[u8], format: &[u8], room: usize) {
-    let f = first_file(table);
+fn judge(f: File, format: &[u8], room: usize) {
     show::text(format);
     show::title(b" in", room as u64);
     if !elements::format_valid(f, format) {
@@ -39,8 +38,7 @@ fn name(what: &[u8], format: &[u8]) {
 }
 
 // Values go into the record by a format buffer: the record after it, or 55.
-fn put(table: &[u8], format: &[u8], values: &[u8], content: &mut [u8]) {
-    let f = first_file(table);
+fn put(f: File, format: &[u8], values: &[u8], content: &mut [u8]) {
     name(b"put ", format);
     show::bytes(values);
     show::text(b" ");
@@ -53,8 +51,7 @@ fn put(table: &[u8], format: &[u8], values: &[u8], content: &mut [u8]) {
 }
 
 // Values come out of the record by a format buffer: how many bytes, and those.
-fn get(table: &[u8], format: &[u8], content: &[u8]) {
-    let f = first_file(table);
+fn get(f: File, format: &[u8], content: &[u8]) {
     let mut buffer = [0u8; 32];
     let n = fields::read_fields(f, format, content, &mut buffer);
     name(b"get ", format);
@@ -64,8 +61,7 @@ fn get(table: &[u8], format: &[u8], content: &[u8]) {
     show::text(b"\n");
 }
 
-fn nulls(table: &[u8], content: &mut [u8]) {
-    let f = first_file(table);
+fn nulls(f: File, content: &mut [u8]) {
     nulls::put_nulls(f, content);
     show::text(b"nulls ");
     show::line(content);
@@ -74,61 +70,62 @@ fn nulls(table: &[u8], content: &mut [u8]) {
 // Document 01, 'The house call list': RC unique, HH.
 const HOUSE: [u8; 17] = *b"\x01\x01\x00\x03\x02RC\x01AU\x02HH\x02A \x00";
 
-fn judge_house(format: &[u8]) {
-    judge(&HOUSE, format, 3);
+fn judge_house(format: &[u8], room: usize) {
+    judge(first_file(&HOUSE), format, room);
 }
 
 fn good_formats() {
-    judge_house(b"RC,HH.");
-    judge_house(b"HH.");
-    judge_house(b"RC,RC.");
-    judge(&HOUSE, b"RC,HH.", 2);
+    judge_house(b"RC,HH.", 3);
+    judge_house(b"HH.", 3);
+    judge_house(b"RC,RC.", 3);
+    judge_house(b"RC,HH.", 2);
 }
 
 fn bad_formats() {
-    judge_house(b"RC,");
-    judge_house(b"RC,HH");
-    judge_house(b"RC.HH.");
-    judge_house(b"ZZ.");
-    judge_house(b".");
-    judge_house(b"");
+    judge_house(b"RC,", 3);
+    judge_house(b"RC,HH", 3);
+    judge_house(b"RC.HH.", 3);
+    judge_house(b"ZZ.", 3);
+    judge_house(b".", 3);
+    judge_house(b"", 3);
 }
 
 fn house() {
+    let f = first_file(&HOUSE);
     let mut content = [0u8; 3];
-    nulls(&HOUSE, &mut content);
-    put(&HOUSE, b"RC,HH.", b"2AB", &mut content);
-    get(&HOUSE, b"RC,HH.", &content);
-    get(&HOUSE, b"HH,RC.", &content);
-    put(&HOUSE, b"RC.", b"3", &mut content);
-    get(&HOUSE, b"RC,RC.", &content);
+    nulls(f, &mut content);
+    put(f, b"RC,HH.", b"2AB", &mut content);
+    get(f, b"RC,HH.", &content);
+    get(f, b"HH,RC.", &content);
+    put(f, b"RC.", b"3", &mut content);
+    get(f, b"RC,RC.", &content);
 }
 
 // The Command Reference's file 1: AA, AB packed, AC. Its A1 example replaces AA and AB and leaves AC; the old values are those of
 // second/vectors.
 fn update() {
-    let table = b"\x01\x01\x00\x08\x02AA\x08AD\x02AB\x02PD\x02AC\x14A \x00";
+    let f = first_file(b"\x01\x01\x00\x08\x02AA\x08AD\x02AB\x02PD\x02AC\x14A \x00");
     let mut content = [0u8; 30];
-    nulls(table, &mut content);
+    nulls(f, &mut content);
     put(
-        table,
+        f,
         b"AA,AB,AC.",
         b"ABCDEFGH\x50\x0CUNCHANGED           ",
         &mut content,
     );
-    put(table, b"AA,AB.", b"1234    \x02\x0C", &mut content);
-    get(table, b"AA,AB,AC.", &content);
+    put(f, b"AA,AB.", b"1234    \x02\x0C", &mut content);
+    get(f, b"AA,AB,AC.", &content);
     // 'Packed Value Signs': a sign that document 01 has not.
-    put(table, b"AB.", &[0x12, 0x3A], &mut content);
+    put(f, b"AB.", &[0x12, 0x3A], &mut content);
 }
 
 // Document 01, 'Marked for proof': packed values of three bytes and their stored form.
 fn packed() {
-    let table = b"\x01\x01\x00\x01\x02AA\x03P \x00";
+    let f = first_file(b"\x01\x01\x00\x01\x02AA\x03P \x00");
     let mut content = [0u8; 3];
-    put(table, b"AA.", &[0x00, 0x50, 0x0C], &mut content);
-    put(table, b"AA.", &[0x00, 0x00, 0x0D], &mut content);
-    get(table, b"AA.", &content);
+    put(f, b"AA.", &[0x00, 0x50, 0x0C], &mut content);
+    put(f, b"AA.", &[0x00, 0x00, 0x0D], &mut content);
+    get(f, b"AA.", &content);
 }
 
 fn main() {
