@@ -3,8 +3,6 @@ use Prim.Native.Nat.{ℕ}
 use mathlib.Core.List.{List}
 use Rattle.entries.specs.declared.Entry.{Entry}
 use Rattle.nucleus.specs.Nucleus.{nucleus, Result}
-use Rattle.nucleus.specs.declared.Answer.{Answer}
-use Rattle.nucleus.specs.declared.State.{State}
 use Rattle.database.specs.Database.{database, Reply, direct-call}
 use Rattle.kept_states.specs.KeptStates.{thawed, call-of, left-by}
 use Rattle.kept_states.specs.declared.KeptState.{KeptState}

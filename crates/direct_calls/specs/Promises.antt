@@ -14,7 +14,7 @@ use Rattle.kept_tables.specs.KeptTables.{fields-known}
 use Rattle.nucleus.specs.Responses.{refused}
 use Rattle.nucleus.specs.Nucleus.{Result}
 use Rattle.nucleus.specs.declared.Response.the-variants.{StateInvalid}
-use Rattle.database.specs.Database.{database, fits, words, with-words, in-words, reply-of, direct-call}
+use Rattle.database.specs.Database.{database, fits, in-words, reply-of, direct-call}
 use Rattle.database.specs.Laws.{invalid-refused}
 use Rattle.database.specs.Words.{entries-back}
 use Rattle.database.specs.Tables.{same-table}

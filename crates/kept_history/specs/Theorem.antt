@@ -6,7 +6,6 @@ use mathlib.Core.Path.{_≡_, refl, sym, ap, subst, _∙_}
 use mathlib.Core.List.{List, [], _∷_, map}
 use Rattle.entries.specs.Entries.{pack-of}
 use Rattle.entries.specs.declared.Entry.{Entry}
-use Rattle.definition.specs.declared.Definition.{Definition}
 use Rattle.reading.specs.Grammar.{read-table}
 use Rattle.nucleus.specs.Responses.{number}
 use Rattle.nucleus.specs.declared.Response.{Response}
@@ -20,7 +19,7 @@ use Rattle.direct_calls.specs.Promises.{left-thawed}
 use Rattle.claim.specs.Journal.{Journal, new-journal}
 use Rattle.claim.specs.Run.{World, BackOut, called, run, begin, bt, back-outs, struck-all}
 use Rattle.claim.specs.Answers.{Answered, answers, fed-all}
-use Rattle.claim.specs.Claim.{SameRecords, UniqueValues, Chosen, NeverWas}
+use Rattle.claim.specs.Claim.{SameRecords, UniqueValues, Chosen}
 use Rattle.history.specs.SetUpKept.{set-up-touches}
 use Rattle.history.specs.Theorem.{backed-out-never-was, back-outs-are-calls, journal-of-answers}
 use Rattle.kept_history.specs.KeptRun.{Kept, kept-database, KeptGiven, given-in, replied, kept-after, kept-run, kept-answers, kept-begin, kept-journal, Requirement3Kept}
@@ -132,7 +131,9 @@ kept-never-was capacity table store queue images calls outs bs good same chosen 
     let j = journal-is capacity table store queue images calls in
     let s = backed-out-is capacity table store queue images calls outs bs same in
     let never = backed-out-never-was capacity table store queue images (map given-in calls) bs (number-good _ good) (subst (Chosen bs) j chosen) in
+    let left = kept-run capacity outs (kept-run capacity calls (kept-begin capacity table store queue images)) .store in
+    let told = struck-all bs (run capacity (map given-in calls) (begin capacity store queue images table) .journal) in
     record {
-      same-records = subst (λ (x : Journal). SameRecords d _ (struck-all bs x)) (sym j) (subst (λ (x : List ℕ). SameRecords d x _) (sym s) (never .same-records));
+      same-records = subst (λ (x : Journal). SameRecords d left (struck-all bs x)) (sym j) (subst (λ (x : List ℕ). SameRecords d x told) (sym s) (never .same-records));
       unique-values = subst (UniqueValues d) (sym s) (never .unique-values);
     }

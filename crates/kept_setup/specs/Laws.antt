@@ -1,10 +1,10 @@
 -- Set-up with a kept state from set-up on words; the sizes of a table are enough for it; and a bound of an image's bytes. Assumes nothing.
-use Prim.Native.Nat.{ℕ, zero, max, _*_, _≤_, zero-le}
+use Prim.Native.Nat.{ℕ, _*_, _≤_, zero-le}
 use native.Mathlib.Omega.{arith}
-use mathlib.Core.Path.{_≡_, sym, ap, subst, _∙_}
+use mathlib.Core.Path.{_≡_, ap, subst, _∙_}
 use mathlib.Core.Bool.{false}
 use mathlib.Core.List.{List, [], _∷_, map}
-use lib.ListN.{length, length-map, take}
+use lib.ListN.{length, length-map}
 use borrow.Author.Tests.{le-ltb}
 use Rattle.lists.specs.Tests.{within-inside, eqb-self}
 use Rattle.lists.specs.Folds.{maximum, Each, each-take}
@@ -12,7 +12,6 @@ use Rattle.lists.specs.Every.{each-with}
 use Rattle.definition.specs.Table.{files-of, file-count}
 use Rattle.definition.specs.Shape.{FileShape, DefinitionShape}
 use Rattle.definition.specs.declared.Definition.{Definition}
-use Rattle.definition.specs.declared.File.{File}
 use Rattle.records.specs.Records.{record-length}
 use Rattle.records.specs.Bounds.{record-length-most}
 use Rattle.layout.specs.Layout.{store-size, image-length}
@@ -24,13 +23,11 @@ use Rattle.nucleus.specs.Nucleus.{max-capacity}
 use Rattle.nucleus.specs.Responses.{number}
 use Rattle.nucleus.specs.WellMade.{too-short}
 use Rattle.nucleus.specs.Step.{SetUp, set-up}
-use Rattle.nucleus.specs.declared.State.{State}
 use Rattle.database.specs.Database.{set-up-as, set-up-database}
 use Rattle.setup.specs.SetUp.{set-up-to}
 use Rattle.setup.specs.declared.Nucleus.{Nucleus}
 use Rattle.kept_states.specs.KeptStates.{thawed, frozen}
 use Rattle.kept_states.specs.Laws.{state-back}
-use Rattle.kept_states.specs.declared.KeptState.{KeptState}
 use Rattle.kept_setup.specs.KeptSetup.{kept-made, kept-of, kept-set-up, store-bytes, image-bytes}
 use Rattle.kept_setup.specs.declared.KeptNucleus.{KeptNucleus}
 

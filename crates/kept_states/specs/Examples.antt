@@ -1,15 +1,12 @@
 -- Worked examples: a control block and its call, an answer put in, and tables as they are kept. Assumes nothing.
 use mathlib.Core.Path.{_≡_, refl}
 use mathlib.Core.List.{List, [], _∷_}
-use lib.Dec.{eqb, ltb}
 use Rattle.definition.specs.Table.{no-definition}
 use Rattle.definition.specs.declared.Format.the-variants.{Binary}
 use Rattle.definition.specs.declared.FieldOption.the-variants.{Descriptor}
 use Rattle.definition.specs.declared.Definition.{Definition}
 use Rattle.kept_tables.specs.KeptTables.{format-numbered, option-numbered, bytes-known, fields-known, thawed-field, thawed-file}
 use Rattle.kept_tables.specs.declared.KeptFile.{KeptFile}
-use Rattle.nucleus.specs.declared.Answer.{Answer}
-use Rattle.nucleus.specs.declared.Call.{Call}
 use Rattle.nucleus.specs.declared.Response.the-variants.{Good}
 use Rattle.kept_states.specs.KeptStates.{thawed-table, call-of, answered}
 use Rattle.kept_states.specs.declared.ControlBlock.{ControlBlock}

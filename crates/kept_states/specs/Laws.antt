@@ -1,7 +1,7 @@
 -- What is kept of a state is the state: frozen and thawed again it is what it was, and so is one whose table did not change.
 -- Assumes nothing.
-use mathlib.Core.Path.{_≡_, refl, sym, ap, _∙_}
-use mathlib.Core.Bool.{true, false}
+use mathlib.Core.Path.{_≡_, sym}
+use mathlib.Core.Bool.{false}
 use mathlib.Core.List.{map}
 use Rattle.lists.specs.Folds.{all}
 use Rattle.definition.specs.Table.{no-definition}

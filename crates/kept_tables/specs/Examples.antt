@@ -1,7 +1,6 @@
 -- Worked examples: fields as they are kept, and bytes that number nothing. Assumes nothing.
 use mathlib.Core.Path.{_≡_, refl}
 use mathlib.Core.Bool.{true, false}
-use lib.Dec.{eqb, ltb}
 use Rattle.definition.specs.declared.Format.the-variants.{Packed}
 use Rattle.definition.specs.declared.FieldOption.the-variants.{Unique}
 use Rattle.definition.specs.declared.Field.{Field}

@@ -7,9 +7,9 @@ use mathlib.Core.Path.{_≡_, refl, ap, sym, _∙_}
 use mathlib.Core.Bool.{Bool, true, false}
 use mathlib.Core.List.{List, [], _∷_, _++_, map}
 use lib.Dec.{ltb}
-use lib.ListN.{length, take, drop, getD, set, length-map, length-set, drop-of-length-le, List·getD-map}
+use lib.ListN.{length, take, drop, getD, set, length-map, drop-of-length-le, List·getD-map}
 use Rattle.lists.specs.Folds.{all}
-use Rattle.lists.specs.Rest.{drop-more, write-more, write-all, read-within}
+use Rattle.lists.specs.Rest.{drop-more, write-more, write-all}
 use Rattle.definition.specs.declared.Format.{Format}
 use Rattle.definition.specs.declared.Format.the-variants.{Alphanumeric, Binary, Unpacked, Packed}
 use Rattle.definition.specs.declared.FieldOption.{FieldOption}
@@ -17,8 +17,6 @@ use Rattle.definition.specs.declared.FieldOption.the-variants.{Plain, Descripto
 use Rattle.definition.specs.declared.Field.{Field}
 use Rattle.definition.specs.declared.File.{File}
 use Rattle.kept_tables.specs.KeptTables.{format-number, option-number, format-numbered, option-numbered, bytes-known, fields-known, thawed-field, thawed-file, frozen-field, frozen-file}
-use Rattle.kept_tables.specs.declared.KeptField.{KeptField}
-use Rattle.kept_tables.specs.declared.KeptFile.{KeptFile}
 
 -- ---- frozen and thawed again
 format-back : (f : Format) → format-numbered (format-number f) ≡ f

@@ -4,18 +4,14 @@ use Prim.Native.Nat.{ℕ}
 use mathlib.Core.List.{List}
 use mathlib.Core.Option.{Option}
 use lib.Dec.{eqb}
-use Rattle.definition.specs.declared.Definition.{Definition}
 use Rattle.definition.specs.declared.File.{File}
 use Rattle.elements.specs.Elements.{length-needed}
 use Rattle.fields.specs.Fields.{read-fields}
-use Rattle.layout.specs.Layout.{image-length}
 use Rattle.store.specs.Store.{has-record, record-of, shown, put-record, empty}
-use Rattle.search.specs.declared.Occupied.{Occupied}
 use Rattle.removal.specs.declared.Removal.the-variants.{All}
 use Rattle.nucleus.specs.Commands.{option-A}
 use Rattle.nucleus.specs.Users.{set-session, closed, counted, ended}
 use Rattle.nucleus.specs.Responses.{good}
-use Rattle.nucleus.specs.Target.{isn-in}
 use Rattle.nucleus.specs.declared.Call.{Call}
 use Rattle.nucleus.specs.declared.Response.{Response}
 use Rattle.shares.specs.Shares.{share, share-with-user, share-with-count, share-with-assigned, done, done-unless, kept-by}

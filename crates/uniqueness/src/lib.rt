@@ -5,7 +5,6 @@ ghost use lib.Dec.{eqb};
 ghost use Rattle.lists.specs.Folds.{any};
 ghost use Rattle.definition.specs.Table.{field-at, is-unique};
 ghost use Rattle.elements.specs.Elements.{places};
-ghost use Rattle.store.specs.Store.{field-value};
 ghost use Rattle.shares.specs.Chains.{taken};
 ghost use Rattle.uniqueness.specs.Uniqueness.{is-place, is-judged, value-taken, field-taken, some-taken};
 use definition::FieldOption;
