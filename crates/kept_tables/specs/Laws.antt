@@ -1,15 +1,15 @@
 -- What is kept of a table is the table: frozen and thawed again it is what it was, and every byte is then known.
--- And the loops: one turn and the end of one that writes an image of each element, and of one that tests each.
+-- And the loop that writes an image of each element: one turn, and its end.
 -- Assumes nothing.
 use Prim.Native.Nat.{ℕ, _+_, _≤_, _<_}
 use native.Mathlib.Omega.{arith}
 use mathlib.Core.Path.{_≡_, refl, ap, sym, _∙_}
-use mathlib.Core.Bool.{Bool, true, false}
+use mathlib.Core.Bool.{Bool, true}
 use mathlib.Core.List.{List, [], _∷_, _++_, map}
 use lib.Dec.{ltb}
-use lib.ListN.{length, take, drop, getD, set, length-map, drop-of-length-le, List·getD-map}
+use lib.ListN.{length, take, drop, getD, set, length-map, List·getD-map}
 use Rattle.lists.specs.Folds.{all}
-use Rattle.lists.specs.Rest.{drop-more, write-more, write-all}
+use Rattle.lists.specs.Rest.{write-more, write-all}
 use Rattle.definition.specs.declared.Format.{Format}
 use Rattle.definition.specs.declared.Format.the-variants.{Alphanumeric, Binary, Unpacked, Packed}
 use Rattle.definition.specs.declared.FieldOption.{FieldOption}
@@ -89,14 +89,3 @@ module _ {A B : Type 0} (f : A → B) (l : List A) (old : List B) (i : ℕ) wher
   map-all h k =
       let past : length (map f l) ≤ i = omega (arith, h, length-map l f) in
       write-all (map f l) old i past k
-
--- ---- a loop that tests each element
-module _ {A : Type 0} (p : A → Bool) (l : List A) (i : ℕ) (d : A) where
-  pub all-more : i < length l → p (getD l i d) ≡ true → all p (drop i l) ≡ all p (drop (i + 1) l)
-  all-more h t = rw (drop-more l i d h, t)
-
-  pub all-fails : i < length l → p (getD l i d) ≡ false → all p (drop i l) ≡ false
-  all-fails h t = rw (drop-more l i d h, t)
-
-  pub all-passed : length l ≤ i → all p (drop i l) ≡ true
-  all-passed h = rw (drop-of-length-le l h)

@@ -2,6 +2,7 @@
 -- `rest-none` the end. A loop that writes a list from its front has `take i new ++ drop i old`.
 -- Assumes nothing.
 use mathlib.Core.Path.{_≡_, refl, ap}
+use mathlib.Core.Bool.{Bool, true, false}
 use mathlib.Core.List.{List, [], _∷_, _++_, append-nil}
 use Prim.Native.Nat.{ℕ, zero, suc, _+_, _-_, _≤_, _<_, min}
 use native.Mathlib.Nat.{not-suc-le-zero, le-of-suc-le-suc}
@@ -9,6 +10,7 @@ use native.Mathlib.Numerals.{add-one}
 use native.Mathlib.Omega.{arith}
 use lib.ListN.{length, take, drop, getD, set, replicate, length-take, length-drop, drop-of-length-le}
 use lib.Seq.{drop-cons, getD-take, length-take-le, take-all, take-nil}
+use Rattle.lists.specs.Folds.{all}
 
 module _ {A : Type 0} where
   pub rest-more : (n : ℕ) (l : List A) (i : ℕ) (d : A) → i < n → n ≤ length l → drop i (take n l) ≡ getD l i d ∷ drop (i + 1) (take n l)
@@ -68,3 +70,14 @@ module _ {A : Type 0} where
   -- and its end, where both are of one length
   pub write-all : (new old : List A) (i : ℕ) → length new ≤ i → length old ≤ i → take i new ++ drop i old ≡ new
   write-all new old i h k = rw (take-all i new h, drop-of-length-le old k) (append-nil new)
+
+-- ---- a loop that tests each element: one turn, and its two ends
+module _ {A : Type 0} (p : A → Bool) (l : List A) (i : ℕ) (d : A) where
+  pub all-more : i < length l → p (getD l i d) ≡ true → all p (drop i l) ≡ all p (drop (i + 1) l)
+  all-more h t = rw (drop-more l i d h, t)
+
+  pub all-fails : i < length l → p (getD l i d) ≡ false → all p (drop i l) ≡ false
+  all-fails h t = rw (drop-more l i d h, t)
+
+  pub all-passed : length l ≤ i → all p (drop i l) ≡ true
+  all-passed h = rw (drop-of-length-le l h)

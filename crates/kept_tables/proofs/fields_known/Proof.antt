@@ -8,7 +8,7 @@ use borrow.Author.Tests.{not-true, not-false}
 use borrow.Author.Needs.{needs}
 use Rattle.lists.specs.Folds.{all}
 use Rattle.kept_tables.specs.KeptTables.{bytes-known, fields-known}
-use Rattle.kept_tables.specs.Laws.{all-more, all-fails, all-passed}
+use Rattle.lists.specs.Rest.{all-more, all-fails, all-passed}
 use Rattle.kept_tables.specs.declared.KeptField.{KeptField}
 use Rattle.kept_tables.proofs.Known.{places}
 use Rattle.kept_tables.proofs.fields_known.Statement.{statement}

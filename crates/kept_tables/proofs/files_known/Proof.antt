@@ -9,7 +9,7 @@ use borrow.Author.Tests.{not-true, not-false}
 use borrow.Author.Needs.{needs}
 use Rattle.lists.specs.Folds.{all}
 use Rattle.kept_tables.specs.KeptTables.{fields-known}
-use Rattle.kept_tables.specs.Laws.{all-more, all-fails, all-passed}
+use Rattle.lists.specs.Rest.{all-more, all-fails, all-passed}
 use Rattle.kept_tables.specs.declared.KeptFile.{KeptFile}
 use Rattle.kept_tables.proofs.files_known.Statement.{statement}
 use Rattle.kept_tables.proofs.files_known.Tie as tie

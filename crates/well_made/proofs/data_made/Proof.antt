@@ -9,7 +9,7 @@ use borrow.Author.Tests.{le-leb, lt-leb}
 use Rattle.lists.specs.Folds.{all}
 use Rattle.nucleus.specs.Nucleus.{beyond-data}
 use Rattle.nucleus.specs.WellMade.{data-made}
-use Rattle.well_made.specs.Turns.{all-more, all-fails, all-passed}
+use Rattle.lists.specs.Rest.{all-more, all-fails, all-passed}
 use Rattle.well_made.proofs.data_made.Statement.{statement}
 use Rattle.well_made.proofs.data_made.Tie as tie
 

@@ -7,7 +7,7 @@ use borrow.Author.Tests.{not-true, not-false}
 use Rattle.lists.specs.Folds.{all}
 use Rattle.nucleus.specs.Users.{fresh-user}
 use Rattle.nucleus.specs.WellMade.{user-made}
-use Rattle.well_made.specs.Turns.{all-more, all-fails, all-passed}
+use Rattle.lists.specs.Rest.{all-more, all-fails, all-passed}
 use native.Mathlib.Omega.{arith}
 use borrow.Author.Needs.{needs}
 use Rattle.well_made.proofs.users_made.Statement.{statement}
