@@ -30,21 +30,21 @@ database state store queue images = record { state = state; store = store; queue
 unfoldable pub fitting : ℕ → ℕ → ℕ
 fitting capacity size = cond (ltb max-capacity capacity) 0 (cond (ltb size capacity) 0 capacity)
 
-abbrev pub fits : ℕ → List Entry → ℕ
-fits capacity queue = fitting capacity (length queue)
+abbrev pub fitting-in : ℕ → List Entry → ℕ
+fitting-in capacity queue = fitting capacity (length queue)
 
 abbrev pub words : ℕ → List Entry → List ℕ
 words n queue = map pack-of (take n queue)
 
 abbrev pub in-words : ℕ → Database → Nucleus
-in-words capacity b = nucleus (b .state) (b .store) (words (fits capacity (b .queue)) (b .queue)) (b .images)
+in-words capacity b = nucleus (b .state) (b .store) (words (fitting-in capacity (b .queue)) (b .queue)) (b .images)
 
 -- the entries of the words, and behind them the queue as it was
 abbrev pub with-words : ℕ → List ℕ → List Entry → List Entry
 with-words n ws queue = map unpack-of ws ++ drop n queue
 
 abbrev pub from-words : ℕ → List Entry → Nucleus → Database
-from-words capacity queue n = database (n .state) (n .store) (with-words (fits capacity queue) (n .queue) queue) (n .images)
+from-words capacity queue n = database (n .state) (n .store) (with-words (fitting-in capacity queue) (n .queue) queue) (n .images)
 
 -- ---- one call
 -- what a call answers, and what it leaves of the database and of its record buffer
@@ -67,8 +67,8 @@ pub record SetUpDatabase : Type 0 where
   pub response : Response
   pub database : Database
 
-abbrev pub set-up-as : List Entry → SetUp → SetUpDatabase
-set-up-as queue s = record { response = s .response; database = database (s .nucleus .state) (s .nucleus .store) queue (s .nucleus .images) }
+abbrev pub set-up-with : List Entry → SetUp → SetUpDatabase
+set-up-with queue s = record { response = s .response; database = database (s .nucleus .state) (s .nucleus .store) queue (s .nucleus .images) }
 
 unfoldable pub set-up-database : ℕ → List ℕ → List Entry → List ℕ → List ℕ → SetUpDatabase
-set-up-database capacity store queue images table = set-up-as queue (set-up capacity store (map pack-of queue) images table)
+set-up-database capacity store queue images table = set-up-with queue (set-up capacity store (map pack-of queue) images table)

@@ -17,7 +17,7 @@ use Rattle.nucleus.specs.Rows.{rows-usable}
 use Rattle.nucleus.specs.Step.{refusal, admitted, step}
 use Rattle.nucleus.specs.declared.Call.{Call}
 use Rattle.nucleus.specs.declared.Response.the-variants.{BufferTooShort, StateInvalid}
-use Rattle.database.specs.Database.{Database, fitting, fits, words, in-words}
+use Rattle.database.specs.Database.{Database, fitting, fitting-in, words, in-words}
 
 -- ---- the capacity that fits
 within-size : (size capacity : ℕ) → cond (ltb size capacity) 0 capacity ≤ size
@@ -91,11 +91,11 @@ module _ (capacity : ℕ) (call : Call) (format buffer : List ℕ) (b : Database
   none-fit : too-short (b .state .definition) capacity (b .store) [] (b .images) ≡ true → alike 0
   none-fit short = short-refused call format buffer (on 0) capacity short ∙ sym (short-refused call format buffer (on 0) 0 (no-capacity (b .state .definition) (b .store) [] (b .images)))
 
-  pub step-fits : step capacity call format buffer (in-words capacity b) ≡ step (fits capacity (b .queue)) call format buffer (in-words capacity b)
+  pub step-fits : step capacity call format buffer (in-words capacity b) ≡ step (fitting-in capacity (b .queue)) call format buffer (in-words capacity b)
   unfolding fitting
   step-fits = go (outcome (ltb max-capacity capacity)) (outcome (ltb size capacity))
     where
-      go : Outcome (ltb max-capacity capacity) → Outcome (ltb size capacity) → alike (fits capacity (b .queue))
+      go : Outcome (ltb max-capacity capacity) → Outcome (ltb size capacity) → alike (fitting-in capacity (b .queue))
       go (holds t) s = rw t (none-fit (over-most (b .state .definition) capacity (b .store) [] (b .images) (ltb-true max-capacity capacity t)))
       go (fails t) (holds s) =
           let h : 0 < capacity = omega (arith, ltb-true size capacity s) in

@@ -17,7 +17,7 @@ use Rattle.entries.specs.Laws.{Shape, unpack-pack, unpack-shape}
 use Rattle.entries.specs.declared.Entry.{Entry}
 use Rattle.nucleus.specs.Nucleus.{max-capacity, entries-of}
 use Rattle.database.specs.Laws.{fitting-size}
-use Rattle.database.specs.Database.{Database, fitting, fits, words, in-words, with-words}
+use Rattle.database.specs.Database.{Database, fitting, fitting-in, words, in-words, with-words}
 
 -- ---- how many fit: all of H, or none
 pub fitting-all : (capacity size : ℕ) → 1 ≤ fitting capacity size → fitting capacity size ≡ capacity
@@ -56,13 +56,13 @@ read-back : (es : List Entry) → Each Shape es → map unpack-of (map pack-of e
 read-back [] h = refl
 read-back (e ∷ es) h = rw (unpack-pack e (h .0), read-back es (h .1))
 
-pub same-entries : (capacity : ℕ) (b : Database) → Each Shape (take (b .state .count) (b .queue)) → b .state .count ≤ fits capacity (b .queue)
+pub same-entries : (capacity : ℕ) (b : Database) → Each Shape (take (b .state .count) (b .queue)) → b .state .count ≤ fitting-in capacity (b .queue)
     → entries-of (in-words capacity b) ≡ take (b .state .count) (b .queue)
 unfolding entries
 same-entries capacity b shapes most =
     ap (map unpack-of)
-    (take-map pack-of (b .state .count) (take (fits capacity (b .queue)) (b .queue))
-    ∙ ap (map pack-of) (take-take (b .state .count) (fits capacity (b .queue)) (b .queue) most))
+    (take-map pack-of (b .state .count) (take (fitting-in capacity (b .queue)) (b .queue))
+    ∙ ap (map pack-of) (take-take (b .state .count) (fitting-in capacity (b .queue)) (b .queue) most))
     ∙ read-back (take (b .state .count) (b .queue)) shapes
 
 -- words that nothing changed come back as the entries that they were
@@ -71,9 +71,9 @@ entries-back k queue shapes =
     ap (λ (l : List Entry). l ++ drop k queue) (read-back (take k queue) (each-take Shape k queue shapes)) ∙ take-append-drop k queue
 
 -- ---- what a call left, of as many words as it was given
-module _ (capacity : ℕ) (queue : List Entry) (ws : List ℕ) (whole : length ws ≡ fits capacity queue) where
+module _ (capacity : ℕ) (queue : List Entry) (ws : List ℕ) (whole : length ws ≡ fitting-in capacity queue) where
   abbrev n : ℕ
-  n = fits capacity queue
+  n = fitting-in capacity queue
 
   entry-count : length (map unpack-of ws) ≡ n
   entry-count = length-map ws unpack-of ∙ whole
@@ -85,7 +85,7 @@ module _ (capacity : ℕ) (queue : List Entry) (ws : List ℕ) (whole : length w
   pub same-behind : drop n (with-words n ws queue) ≡ drop n queue
   same-behind = drop-at (map unpack-of ws) (drop n queue) n entry-count
 
-  pub words-again : words (fits capacity (with-words n ws queue)) (with-words n ws queue) ≡ renewed ws
+  pub words-again : words (fitting-in capacity (with-words n ws queue)) (with-words n ws queue) ≡ renewed ws
   words-again =
-      let same : fits capacity (with-words n ws queue) ≡ n = ap (fitting capacity) same-size in
+      let same : fitting-in capacity (with-words n ws queue) ≡ n = ap (fitting capacity) same-size in
       ap (λ k. words k (with-words n ws queue)) same ∙ ap (map pack-of) (take-at (map unpack-of ws) (drop n queue) n entry-count)

@@ -8,7 +8,7 @@ use Rattle.nucleus.specs.Nucleus.{nucleus, Result, result}
 use Rattle.nucleus.specs.declared.Call.{Call}
 use Rattle.nucleus.specs.declared.State.{State}
 use Rattle.calls.specs.declared.Outcome.{Outcome}
-use Rattle.database.specs.Database.{fits}
+use Rattle.database.specs.Database.{fitting-in}
 use Rattle.kept_states.specs.KeptStates.{thawed, call-of, left-by}
 use Rattle.kept_states.specs.declared.KeptState.{KeptState}
 use Rattle.kept_states.specs.declared.ControlBlock.{ControlBlock}
@@ -28,7 +28,7 @@ worked n k b store ws images format buffer s c o l store₂ ws₂ images₂ buff
 
 -- entries out into words, the call on these, and what it leaves of them back
 module _ (capacity : ℕ) (k : KeptState) (b : ControlBlock) (store : List ℕ) (queue : List Entry) (images format buffer : List ℕ) (n : ℕ) (blank ws left : List ℕ)
-    (fit : n ≡ fits capacity queue) (out : ws ≡ packed-front n queue blank) (long : length left ≡ length ws) (room : n ≤ length ws) where
+    (fit : n ≡ fitting-in capacity queue) (out : ws ≡ packed-front n queue blank) (long : length left ≡ length ws) (room : n ≤ length ws) where
   abbrev worked-on : Result
   worked-on = on-words n (call-of b) format buffer (nucleus (thawed k) store ws images)
 

@@ -14,7 +14,7 @@ use Rattle.nucleus.specs.Step.{step}
 use Rattle.nucleus.specs.declared.Answer.{Answer}
 use Rattle.nucleus.specs.declared.Call.{Call}
 use Rattle.nucleus.specs.declared.State.{State}
-use Rattle.database.specs.Database.{database, fits, words, with-words, Reply, reply, reply-of, direct-call}
+use Rattle.database.specs.Database.{database, fitting-in, words, with-words, Reply, reply, reply-of, direct-call}
 use Rattle.database.specs.Laws.{fitting-size, step-fits}
 use Rattle.direct_calls.specs.DirectCalls.{packed-front, unpacked-front, with-rest, on-words}
 
@@ -38,12 +38,12 @@ module _ (capacity : ℕ) (call : Call) (format buffer : List ℕ) (s : State) (
   abbrev replied : ℕ → Result → Reply
   replied k r = as-reply (with-words k (r .nucleus .queue) queue) r
 
-  fits-reply : replied (fits capacity queue) (on-entries (fits capacity queue)) ≡ direct-call capacity call format buffer (database s store queue images)
+  fits-reply : replied (fitting-in capacity queue) (on-entries (fitting-in capacity queue)) ≡ direct-call capacity call format buffer (database s store queue images)
   unfolding direct-call
   fits-reply = ap (reply-of capacity queue) (sym (step-fits capacity call format buffer (database s store queue images)))
 
   -- k entries as words in front of others; the call on the first k; the first k of what is left, as entries
-  module _ (k : ℕ) (blank ws left : List ℕ) (fit : k ≡ fits capacity queue) (out : ws ≡ packed-front k queue blank) (long : length left ≡ length ws) (room : k ≤ length ws) where
+  module _ (k : ℕ) (blank ws left : List ℕ) (fit : k ≡ fitting-in capacity queue) (out : ws ≡ packed-front k queue blank) (long : length left ≡ length ws) (room : k ≤ length ws) where
     abbrev on-front : Result
     on-front = step k call format buffer (nucleus s store (take k ws) images)
 

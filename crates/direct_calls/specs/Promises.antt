@@ -14,11 +14,11 @@ use Rattle.kept_tables.specs.KeptTables.{fields-known}
 use Rattle.nucleus.specs.Responses.{refused}
 use Rattle.nucleus.specs.Nucleus.{Result}
 use Rattle.nucleus.specs.declared.Response.the-variants.{StateInvalid}
-use Rattle.database.specs.Database.{database, fits, in-words, reply-of, direct-call}
+use Rattle.database.specs.Database.{database, fitting-in, in-words, reply-of, direct-call}
 use Rattle.database.specs.Laws.{invalid-refused}
 use Rattle.database.specs.Words.{entries-back}
 use Rattle.database.specs.Tables.{same-table}
-use Rattle.kept_states.specs.KeptStates.{thawed, with-state, call-of, answered, left-by}
+use Rattle.kept_states.specs.KeptStates.{thawed, with-kept-table, call-of, answered, left-by}
 use Rattle.kept_states.specs.Laws.{thawed-with, thawed-none}
 use Rattle.kept_states.specs.declared.KeptState.{KeptState}
 use Rattle.kept_states.specs.declared.ControlBlock.{ControlBlock}
@@ -35,8 +35,8 @@ module _ (capacity : ℕ) (k : KeptState) (b : ControlBlock) (store : List ℕ) 
   unfolding valid
   none-valid = refl
 
-  as-it-was : with-state k (thawed k) ≡ k
-  unfolding with-state thawed
+  as-it-was : with-kept-table k (thawed k) ≡ k
+  unfolding with-kept-table thawed
   as-it-was = refl
 
   pub unknown-refused : all fields-known (k .files) ≡ false → Each Shape queue
@@ -45,4 +45,4 @@ module _ (capacity : ℕ) (k : KeptState) (b : ControlBlock) (store : List ℕ) 
   unknown-refused unknown shaped =
       let invalid : valid (thawed k .definition) ≡ false = ap valid (thawed-none k unknown) ∙ none-valid in
       ap (λ (r : Result). kept-of k b (reply-of capacity queue r)) (invalid-refused (call-of b) format buffer (in-words capacity (database (thawed k) store queue images)) capacity invalid)
-      ∙ (λ i. kept-reply (left (as-it-was i) (answered 12 (refused StateInvalid) b) 12) store (entries-back (fits capacity queue) queue shaped i) images buffer)
+      ∙ (λ i. kept-reply (left (as-it-was i) (answered 12 (refused StateInvalid) b) 12) store (entries-back (fitting-in capacity queue) queue shaped i) images buffer)

@@ -18,7 +18,7 @@ use Rattle.nucleus.specs.Nucleus.{Nucleus, nucleus, Result, max-capacity}
 use Rattle.nucleus.specs.Step.{step, set-up}
 use Rattle.nucleus.specs.declared.Call.{Call}
 use Rattle.nucleus.specs.declared.Response.the-variants.{Good}
-use Rattle.database.specs.Database.{Database, fits, words, in-words, with-words, direct-call, set-up-database}
+use Rattle.database.specs.Database.{Database, fitting-in, words, in-words, with-words, direct-call, set-up-database}
 use Rattle.database.specs.Laws.{fitting-size}
 use Rattle.database.specs.Words.{fitting-all, fitting-whole, renewed, length-renewed, entries-renewed, same-size, same-behind, words-again}
 use Rattle.reading.specs.Grammar.{read-table}
@@ -78,7 +78,7 @@ module _ (capacity : ℕ) (lent : Lent ℕ) (n : Nucleus) (j : Journal) (p : Pas
 -- ---- a call
 module _ (capacity : ℕ) (lent : Lent ℕ) (b : Database) (j : Journal) (p : Passed capacity lent (in-words capacity b) j) where
   abbrev size : ℕ
-  size = fits capacity (b .queue)
+  size = fitting-in capacity (b .queue)
 
   abbrev before : List ℕ
   before = words size (b .queue)
@@ -145,7 +145,7 @@ module _ (capacity : ℕ) (lent : Lent ℕ) (b : Database) (j : Journal) (p : Pa
 module _ (capacity : ℕ) (table store : List ℕ) (queue : List Entry) (images : List ℕ) (good : set-up-database capacity store queue images table .response ≡ Good) where
   -- what was lent, with the queue in words
   abbrev pub lent-words : Lent ℕ
-  lent-words = record { definition = read-table table .definition; store = store; queue = words (fits capacity queue) queue; images = images }
+  lent-words = record { definition = read-table table .definition; store = store; queue = words (fitting-in capacity queue) queue; images = images }
 
   abbrev n : Nucleus
   n = set-up capacity store (map pack-of queue) images table .nucleus
@@ -163,29 +163,29 @@ module _ (capacity : ℕ) (table store : List ℕ) (queue : List Entry) (images 
   same-queue : n .queue ≡ map pack-of queue
   same-queue = set-up-touches capacity store (map pack-of queue) images table .queue-kept
 
-  whole : fits capacity queue ≡ capacity
+  whole : fitting-in capacity queue ≡ capacity
   whole =
       fitting-whole capacity (length queue) (within-most 1 max-capacity capacity (start .kept .sized .capacity-sound))
       (omega (arith, start .kept .sized .made .queue-room, ap length same-queue, length-map queue pack-of))
 
   -- the first H entries are all that any count reads
-  same-front : entries (words (fits capacity queue) queue) (n .state .count) ≡ entries (n .queue) (n .state .count)
+  same-front : entries (words (fitting-in capacity queue) queue) (n .state .count) ≡ entries (n .queue) (n .state .count)
   unfolding entries
   same-front =
       ap (map unpack-of)
-      (take-map pack-of (n .state .count) (take (fits capacity queue) queue)
-      ∙ ap (map pack-of) (take-take (n .state .count) (fits capacity queue) queue (omega (arith, whole, start .kept .sized .made .most)))
+      (take-map pack-of (n .state .count) (take (fitting-in capacity queue) queue)
+      ∙ ap (map pack-of) (take-take (n .state .count) (fitting-in capacity queue) queue (omega (arith, whole, start .kept .sized .made .most)))
       ∙ sym (take-map pack-of (n .state .count) queue) ∙ ap (take (n .state .count)) (sym same-queue))
 
-  room : capacity ≤ length (words (fits capacity queue) queue)
+  room : capacity ≤ length (words (fitting-in capacity queue) queue)
   room = omega (
     arith,
     whole,
-    length-map (take (fits capacity queue) queue) pack-of,
-    length-take (fits capacity queue) queue,
+    length-map (take (fitting-in capacity queue) queue) pack-of,
+    length-take (fitting-in capacity queue) queue,
     fitting-size capacity (length queue),
   )
 
   pub passed-set-up : Passed capacity lent-words (in-words capacity (set-up-database capacity store queue images table .database)) new-journal
   unfolding set-up-database
-  passed-set-up = passed-requeued capacity _ n new-journal start _ _ same-front room (alike-self capacity (words (fits capacity queue) queue))
+  passed-set-up = passed-requeued capacity _ n new-journal start _ _ same-front room (alike-self capacity (words (fitting-in capacity queue) queue))

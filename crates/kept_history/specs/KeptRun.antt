@@ -19,14 +19,14 @@ use Rattle.claim.specs.Journal.{Journal, new-journal}
 use Rattle.claim.specs.Claim.{SameRecords, UniqueValues, Chosen}
 
 -- the state as it is kept, and what is lent
-pub record Kept : Type 0 where
+pub record KeptDatabase : Type 0 where
   pub state : KeptState
   pub store : List ℕ
   pub queue : List Entry
   pub images : List ℕ
 
-abbrev pub kept-database : Kept → Database
-kept-database k = database (thawed (k .state)) (k .store) (k .queue) (k .images)
+abbrev pub thawed-database : KeptDatabase → Database
+thawed-database k = database (thawed (k .state)) (k .store) (k .queue) (k .images)
 
 -- a call: its control block and its buffers. What a block has as an answer before the call is not looked at
 pub record KeptGiven : Type 0 where
@@ -37,25 +37,25 @@ pub record KeptGiven : Type 0 where
 abbrev pub given-in : KeptGiven → Given
 given-in g = given (call-of (g .block)) (g .format) (g .buffer)
 
-abbrev pub replied : ℕ → KeptGiven → Kept → KeptReply
+abbrev pub replied : ℕ → KeptGiven → KeptDatabase → KeptReply
 replied capacity g k = kept-call capacity (k .state) (g .block) (k .store) (k .queue) (k .images) (g .format) (g .buffer)
 
-abbrev pub kept-after : KeptReply → Kept
+abbrev pub kept-after : KeptReply → KeptDatabase
 kept-after r = record { state = r .left .state; store = r .store; queue = r .queue; images = r .images }
 
-unfoldable pub kept-run : ℕ → List KeptGiven → Kept → Kept
+unfoldable pub kept-run : ℕ → List KeptGiven → KeptDatabase → KeptDatabase
 kept-run capacity [] k = k
 kept-run capacity (g ∷ gs) k = kept-run capacity gs (kept-after (replied capacity g k))
 
 -- what such a program is told: the blocks' answers
-abbrev pub kept-answers : ℕ → List KeptGiven → Kept → List Answered
+abbrev pub kept-answers : ℕ → List KeptGiven → KeptDatabase → List Answered
 kept-answers capacity [] k = []
 kept-answers capacity (g ∷ gs) k =
     record { given = given-in g; response = replied capacity g k .left .block .response; isn = replied capacity g k .left .block .«answered_isn» }
     ∷ kept-answers capacity gs (kept-after (replied capacity g k))
 
 -- what set-up leaves: the state and the store; queue and images stay as they are
-abbrev pub kept-begin : ℕ → List ℕ → List ℕ → List Entry → List ℕ → Kept
+abbrev pub kept-begin : ℕ → List ℕ → List ℕ → List Entry → List ℕ → KeptDatabase
 kept-begin capacity table store queue images = record {
   state = kept-set-up capacity store queue images table .state;
   store = kept-set-up capacity store queue images table .store;
@@ -64,7 +64,7 @@ kept-begin capacity table store queue images = record {
 }
 
 -- the journal that is fed the calls of such a program and what it is told
-abbrev pub kept-journal : ℕ → List KeptGiven → Kept → Journal
+abbrev pub kept-journal : ℕ → List KeptGiven → KeptDatabase → Journal
 kept-journal capacity calls k = fed-all (kept-answers capacity calls k) new-journal
 
 -- ---- requirement 3 for such a program: after its calls, and the BTs of any users whom the journal then has in a transaction

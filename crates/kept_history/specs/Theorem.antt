@@ -22,26 +22,26 @@ use Rattle.claim.specs.Answers.{Answered, answers, fed-all}
 use Rattle.claim.specs.Claim.{SameRecords, UniqueValues, Chosen}
 use Rattle.history.specs.SetUpKept.{set-up-touches}
 use Rattle.history.specs.Theorem.{backed-out-never-was, back-outs-are-calls, journal-of-answers}
-use Rattle.kept_history.specs.KeptRun.{Kept, kept-database, KeptGiven, given-in, replied, kept-after, kept-run, kept-answers, kept-begin, kept-journal, Requirement3Kept}
+use Rattle.kept_history.specs.KeptRun.{KeptDatabase, thawed-database, KeptGiven, given-in, replied, kept-after, kept-run, kept-answers, kept-begin, kept-journal, Requirement3Kept}
 
 -- ---- one call
-module _ (capacity : ℕ) (g : KeptGiven) (k : Kept) where
+module _ (capacity : ℕ) (g : KeptGiven) (k : KeptDatabase) where
   abbrev reply-is : Reply
-  reply-is = direct-call capacity (given-in g .call) (g .format) (g .buffer) (kept-database k)
+  reply-is = direct-call capacity (given-in g .call) (g .format) (g .buffer) (thawed-database k)
 
   state-is : thawed (replied capacity g k .left .state) ≡ reply-is .database .state
   state-is = left-thawed capacity (k .state) (g .block) (k .store) (k .queue) (k .images) (g .format) (g .buffer)
 
-  after-is : kept-database (kept-after (replied capacity g k)) ≡ reply-is .database
+  after-is : thawed-database (kept-after (replied capacity g k)) ≡ reply-is .database
   unfolding kept-call direct-call
   after-is = λ i. database (state-is i) (reply-is .database .store) (reply-is .database .queue) (reply-is .database .images)
 
 -- ---- a list of calls
 module _ (capacity : ℕ) where
-  abbrev world : Kept → Journal → World
-  world k j = record { database = kept-database k; journal = j }
+  abbrev world : KeptDatabase → Journal → World
+  world k j = record { database = thawed-database k; journal = j }
 
-  run-is : (gs : List KeptGiven) (k : Kept) (j : Journal) → kept-database (kept-run capacity gs k) ≡ run capacity (map given-in gs) (world k j) .database
+  run-is : (gs : List KeptGiven) (k : KeptDatabase) (j : Journal) → thawed-database (kept-run capacity gs k) ≡ run capacity (map given-in gs) (world k j) .database
   unfolding kept-run run
   run-is [] k j = refl
   run-is (g ∷ gs) k j =
@@ -49,7 +49,7 @@ module _ (capacity : ℕ) where
       run-is gs (kept-after (replied capacity g k)) (w .journal)
       ∙ ap (λ (b : Database). run capacity (map given-in gs) (record { database = b; journal = w .journal }) .database) (after-is capacity g k)
 
-  answers-are : (gs : List KeptGiven) (k : Kept) (j : Journal) → kept-answers capacity gs k ≡ answers capacity (map given-in gs) (world k j)
+  answers-are : (gs : List KeptGiven) (k : KeptDatabase) (j : Journal) → kept-answers capacity gs k ≡ answers capacity (map given-in gs) (world k j)
   unfolding kept-call left-by answered
   answers-are [] k j = refl
   answers-are (g ∷ gs) k j =
@@ -90,12 +90,12 @@ module _ (capacity : ℕ) (table store : List ℕ) (queue : List Entry) (images 
   abbrev made : Database
   made = set-up-database capacity store queue images table .database
 
-  begin-is : kept-database (kept-begin capacity table store queue images) ≡ made
+  begin-is : thawed-database (kept-begin capacity table store queue images) ≡ made
   unfolding kept-set-up set-up-database
   begin-is = λ i. database (state-back (made .state) i) (made .store) queue (sym (set-up-touches capacity store (map pack-of queue) images table .images-kept) i)
 
   module _ (calls : List KeptGiven) where
-    abbrev start : Kept
+    abbrev start : KeptDatabase
     start = kept-begin capacity table store queue images
 
     abbrev w : World
@@ -105,7 +105,7 @@ module _ (capacity : ℕ) (table store : List ℕ) (queue : List Entry) (images 
     begun-is = ap (λ (b : Database). record { database = b; journal = new-journal }) begin-is
 
     -- after the calls
-    called-is : kept-database (kept-run capacity calls start) ≡ w .database
+    called-is : thawed-database (kept-run capacity calls start) ≡ w .database
     called-is = run-is capacity calls start new-journal ∙ ap (λ (v : World). run capacity (map given-in calls) v .database) begun-is
 
     journal-is : kept-journal capacity calls start ≡ w .journal
@@ -119,8 +119,8 @@ module _ (capacity : ℕ) (table store : List ℕ) (queue : List Entry) (images 
     backed-out-is outs bs same =
         ap (λ (b : Database). b .store)
         (run-is capacity outs (kept-run capacity calls start) (w .journal)
-        ∙ ap (λ (gs : List _). run capacity gs (record { database = kept-database (kept-run capacity calls start); journal = w .journal }) .database) same
-        ∙ back-outs-are-calls capacity bs (record { database = kept-database (kept-run capacity calls start); journal = w .journal })
+        ∙ ap (λ (gs : List _). run capacity gs (record { database = thawed-database (kept-run capacity calls start); journal = w .journal }) .database) same
+        ∙ back-outs-are-calls capacity bs (record { database = thawed-database (kept-run capacity calls start); journal = w .journal })
         ∙ ap (back-outs capacity bs) called-is)
 
 -- ---- requirement 3

@@ -29,11 +29,11 @@ kept-nucleus state response = record { state = state; response = response }
 abbrev pub kept-made : KeptNucleus → List ℕ → KeptMade
 kept-made r store = record { response = r .response; state = r .state; store = store }
 
-abbrev pub kept-of : SetUpDatabase → KeptMade
-kept-of s = record { response = number (s .response); state = frozen (s .database .state); store = s .database .store }
+abbrev pub kept-made-of : SetUpDatabase → KeptMade
+kept-made-of s = record { response = number (s .response); state = frozen (s .database .state); store = s .database .store }
 
 unfoldable pub kept-set-up : ℕ → List ℕ → List Entry → List ℕ → List ℕ → KeptMade
-kept-set-up capacity store queue images table = kept-of (set-up-database capacity store queue images table)
+kept-set-up capacity store queue images table = kept-made-of (set-up-database capacity store queue images table)
 
 -- ---- sizes: none for a table that set-up refuses with 10
 abbrev pub of-table : End → ℕ → ℕ → ℕ

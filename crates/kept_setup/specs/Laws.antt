@@ -23,12 +23,12 @@ use Rattle.nucleus.specs.Nucleus.{max-capacity}
 use Rattle.nucleus.specs.Responses.{number}
 use Rattle.nucleus.specs.WellMade.{too-short}
 use Rattle.nucleus.specs.Step.{SetUp, set-up}
-use Rattle.database.specs.Database.{set-up-as, set-up-database}
+use Rattle.database.specs.Database.{set-up-with, set-up-database}
 use Rattle.setup.specs.SetUp.{set-up-to}
 use Rattle.setup.specs.declared.Nucleus.{Nucleus}
 use Rattle.kept_states.specs.KeptStates.{thawed, frozen}
 use Rattle.kept_states.specs.Laws.{state-back}
-use Rattle.kept_setup.specs.KeptSetup.{kept-made, kept-of, kept-set-up, store-bytes, image-bytes}
+use Rattle.kept_setup.specs.KeptSetup.{kept-made, kept-made-of, kept-set-up, store-bytes, image-bytes}
 use Rattle.kept_setup.specs.declared.KeptNucleus.{KeptNucleus}
 
 -- ---- set-up
@@ -37,7 +37,7 @@ pub set-up-kept : (capacity : ℕ) (store images table : List ℕ) (entries : �
     → (queue : List Entry) → length queue ≡ entries → kept-made r store₂ ≡ kept-set-up capacity store queue images table
 unfolding kept-set-up set-up-database
 set-up-kept capacity store images table entries m store₂ r made state response queue e =
-    (λ i. record { response = response i; state = state i; store = store₂ }) ∙ ap (λ (s : SetUp). kept-of (set-up-as queue s)) (made (map pack-of queue) (length-map queue pack-of ∙ e))
+    (λ i. record { response = response i; state = state i; store = store₂ }) ∙ ap (λ (s : SetUp). kept-made-of (set-up-with queue s)) (made (map pack-of queue) (length-map queue pack-of ∙ e))
 
 -- the state that is kept, thawed, is the state that set-up gives
 pub made-thawed : (capacity : ℕ) (store : List ℕ) (queue : List Entry) (images table : List ℕ)

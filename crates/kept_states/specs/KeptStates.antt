@@ -42,9 +42,9 @@ frozen s = record {
   entries = s .count;
 }
 
--- the state that a call left, with the table as it is kept: no call changes that (Laws.antt)
-unfoldable pub with-state : KeptState → State → KeptState
-with-state k s = record {
+-- the state that a call left, with the table as it is kept: no call changes that (`same-table` of database)
+unfoldable pub with-kept-table : KeptState → State → KeptState
+with-kept-table k s = record {
   count = k .count;
   files = k .files;
   clock = s .clock;
@@ -79,4 +79,4 @@ abbrev pub number-of : Answer → ℕ
 number-of answer = number (answer .response)
 
 unfoldable pub left-by : KeptState → ControlBlock → Answer → State → Left
-left-by k b answer s = record { state = with-state k s; block = answered (number-of answer) answer b; response = number-of answer }
+left-by k b answer s = record { state = with-kept-table k s; block = answered (number-of answer) answer b; response = number-of answer }

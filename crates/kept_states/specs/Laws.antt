@@ -9,7 +9,7 @@ use Rattle.definition.specs.declared.Definition.{Definition}
 use Rattle.kept_tables.specs.KeptTables.{fields-known, frozen-file}
 use Rattle.kept_tables.specs.Laws.{files-known, files-back}
 use Rattle.nucleus.specs.declared.State.{State}
-use Rattle.kept_states.specs.KeptStates.{thawed-table, thawed, frozen, with-state}
+use Rattle.kept_states.specs.KeptStates.{thawed-table, thawed, frozen, with-kept-table}
 use Rattle.kept_states.specs.declared.KeptState.{KeptState}
 
 table-back : (d : Definition) → thawed-table (d .count) (map frozen-file (d .files)) ≡ d
@@ -20,8 +20,8 @@ pub state-back : (s : State) → thawed (frozen s) ≡ s
 unfolding thawed frozen
 state-back s = λ i. record { definition = table-back (s .definition) i; clock = s .clock; users = s .users; «et_data» = s .«et_data»; «last_assigned» = s .«last_assigned»; count = s .count }
 
-pub thawed-with : (k : KeptState) (s : State) → s .definition ≡ thawed k .definition → thawed (with-state k s) ≡ s
-unfolding thawed with-state
+pub thawed-with : (k : KeptState) (s : State) → s .definition ≡ thawed k .definition → thawed (with-kept-table k s) ≡ s
+unfolding thawed with-kept-table
 thawed-with k s e = λ i. record { definition = sym e i; clock = s .clock; users = s .users; «et_data» = s .«et_data»; «last_assigned» = s .«last_assigned»; count = s .count }
 
 -- a table with an unknown byte

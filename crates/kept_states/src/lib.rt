@@ -1,7 +1,7 @@
 // The state and the control block of a call as a caller in another language keeps them, in plain numbers, and from them to the nucleus's own and
 // back.
 ghost use mathlib.Core.Path.{_≡_};
-ghost use Rattle.kept_states.specs.KeptStates.{thawed-table, thawed, frozen, with-state, call-of, answered, left-by};
+ghost use Rattle.kept_states.specs.KeptStates.{thawed-table, thawed, frozen, with-kept-table, call-of, answered, left-by};
 use definition::Definition;
 use definition::MAX_FILES;
 use kept_tables::KeptFile;
@@ -100,9 +100,9 @@ pub fn frozen(s: State) -> KeptState
     }
 }
 
-// A state, with the table as it is kept.
-fn with_state(mut k: KeptState, s: State) -> KeptState
-    ensures { λ r. ⌜ r ≡ with-state k s ⌝ }
+// The state that a call left, with the table as it is kept: no call changes that.
+fn with_kept_table(mut k: KeptState, s: State) -> KeptState
+    ensures { λ r. ⌜ r ≡ with-kept-table k s ⌝ }
 {
     let users = s.users;
     let et_data = s.et_data;
@@ -143,7 +143,7 @@ fn answered(mut b: ControlBlock, answer: Answer, response: u16) -> ControlBlock
 pub fn left_by(k: KeptState, b: ControlBlock, answer: Answer, after: State) -> Left
     ensures { λ r. ⌜ r ≡ left-by k b answer after ⌝ }
 {
-    let state = with_state(k, after);
+    let state = with_kept_table(k, after);
     let cause = answer.response;
     let number = response_numbers::number(cause);
     let block = answered(b, answer, number);

@@ -116,6 +116,7 @@ pub fn set_up_for(
     }
 }
 
+// The same with a queue itself.
 pub fn set_up(
     table: &[u8],
     capacity: usize,

@@ -36,7 +36,7 @@ pub fn too_short_for(
     !slices::blocks_fit(capacity, layout::image_length(d), images.len())
 }
 
-pub fn too_short(d: Definition, capacity: usize, store: &[u8], queue: &[u64], images: &[u8]) -> bool
+fn too_short(d: Definition, capacity: usize, store: &[u8], queue: &[u64], images: &[u8]) -> bool
     ensures { λ r. ⌜ r ≡ too-short d capacity (now (store .entry)) (now (queue .entry)) (now (images .entry)) ⌝ }
 {
     too_short_for(d, capacity, store, queue.len(), images)
