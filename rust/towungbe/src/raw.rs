@@ -40,7 +40,8 @@ pub struct Field {
     pub option: u8,
 }
 
-/// A file; places past the count mean nothing.
+/// A file. Places past the count mean nothing, but an unknown format or option number there makes a state one that is not
+/// well made, as in any place.
 #[repr(C)]
 #[derive(Clone, Copy, Debug, Default, PartialEq, Eq)]
 pub struct File {
