@@ -1,16 +1,16 @@
--- What a call with a kept state leaves, thawed, is the state that the direct call leaves; and where a byte of the kept table numbers no format or
--- option the call answers 12 and leaves everything as it was.
+-- What a call with a kept state leaves, thawed, is the state that the direct call leaves; and where a byte in use of the kept table numbers no format
+-- or option the call answers 12 and leaves everything as it was.
 -- Assumes nothing.
 use Prim.Native.Nat.{ℕ}
 use mathlib.Core.Path.{_≡_, refl, ap, _∙_}
 use mathlib.Core.Bool.{false}
 use mathlib.Core.List.{List}
-use Rattle.lists.specs.Folds.{all, Each}
+use Rattle.lists.specs.Folds.{Each}
 use Rattle.definition.specs.Table.{no-definition}
 use Rattle.validity.specs.Validity.{valid}
 use Rattle.entries.specs.Laws.{Shape}
 use Rattle.entries.specs.declared.Entry.{Entry}
-use Rattle.kept_tables.specs.KeptTables.{fields-known}
+use Rattle.kept_tables.specs.KeptTables.{files-known}
 use Rattle.nucleus.specs.Responses.{refused}
 use Rattle.nucleus.specs.Nucleus.{Result}
 use Rattle.nucleus.specs.declared.Response.the-variants.{StateInvalid}
@@ -30,7 +30,7 @@ module _ (capacity : ℕ) (k : KeptState) (b : ControlBlock) (store : List ℕ) 
   unfolding kept-call left-by
   left-thawed = thawed-with k _ (same-table capacity (call-of b) format buffer (database (thawed k) store queue images))
 
-  -- ---- a byte that numbers nothing
+  -- ---- a byte in use that numbers nothing
   none-valid : valid no-definition ≡ false
   unfolding valid
   none-valid = refl
@@ -39,7 +39,7 @@ module _ (capacity : ℕ) (k : KeptState) (b : ControlBlock) (store : List ℕ) 
   unfolding with-kept-table thawed
   as-it-was = refl
 
-  pub unknown-refused : all fields-known (k .files) ≡ false → Each Shape queue
+  pub unknown-refused : files-known (k .count) (k .files) ≡ false → Each Shape queue
       → kept-call capacity k b store queue images format buffer ≡ kept-reply (left k (answered 12 (refused StateInvalid) b) 12) store queue images buffer
   unfolding kept-call direct-call left-by
   unknown-refused unknown shaped =

@@ -12,8 +12,8 @@ use Rattle.nucleus.specs.declared.Response.{Response}
 use Rattle.nucleus.specs.declared.Response.the-variants.{Good, DefinitionInvalid, BufferTooShort, StateInvalid, CommandUnknown, UserUnknown, BackedOut, AccessOnly, FileUnknown, IsnInvalid, FormatInvalid, FieldTwice, RecordLength, ValueInvalid, NotFound, HeldByAnother, Presence, NotHeld, AlreadyChanged, FileFull, HoldLimit, QueueFull, ValueTaken}
 use Rattle.database.specs.Database.{Database, database, Reply, direct-call, set-up-database}
 use Rattle.kept_states.specs.KeptStates.{thawed, answered, left-by}
-use Rattle.kept_states.specs.Laws.{state-back}
 use Rattle.kept_setup.specs.KeptSetup.{kept-set-up}
+use Rattle.kept_setup.specs.Laws.{made-thawed}
 use Rattle.direct_calls.specs.Kept.{kept-call}
 use Rattle.direct_calls.specs.Promises.{left-thawed}
 use Rattle.claim.specs.Journal.{Journal, new-journal}
@@ -92,7 +92,7 @@ module _ (capacity : ℕ) (table store : List ℕ) (queue : List Entry) (images 
 
   begin-is : thawed-database (kept-begin capacity table store queue images) ≡ made
   unfolding kept-set-up set-up-database
-  begin-is = λ i. database (state-back (made .state) i) (made .store) queue (sym (set-up-touches capacity store (map pack-of queue) images table .images-kept) i)
+  begin-is = λ i. database (made-thawed capacity store queue images table i) (made .store) queue (sym (set-up-touches capacity store (map pack-of queue) images table .images-kept) i)
 
   module _ (calls : List KeptGiven) where
     abbrev start : KeptDatabase

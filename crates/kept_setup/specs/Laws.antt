@@ -28,6 +28,7 @@ use Rattle.setup.specs.SetUp.{set-up-to}
 use Rattle.setup.specs.declared.Nucleus.{Nucleus}
 use Rattle.kept_states.specs.KeptStates.{thawed, frozen}
 use Rattle.kept_states.specs.Laws.{state-back}
+use Rattle.kept_setup.specs.Tidy.{set-up-tidy}
 use Rattle.kept_setup.specs.KeptSetup.{kept-made, kept-made-of, kept-set-up, store-bytes, image-bytes}
 use Rattle.kept_setup.specs.declared.KeptNucleus.{KeptNucleus}
 
@@ -43,7 +44,7 @@ set-up-kept capacity store images table entries m store₂ r made state response
 pub made-thawed : (capacity : ℕ) (store : List ℕ) (queue : List Entry) (images table : List ℕ)
     → thawed (kept-set-up capacity store queue images table .state) ≡ set-up-database capacity store queue images table .database .state
 unfolding kept-set-up
-made-thawed capacity store queue images table = state-back _
+made-thawed capacity store queue images table = state-back _ (set-up-tidy capacity store queue images table)
 
 -- ---- a table that is read whole: the sizes, and that they are enough
 module _ (table : List ℕ) (whole : read-table table .end ≡ At (length table)) where

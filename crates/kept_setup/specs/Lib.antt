@@ -1,3 +1,4 @@
 pub mod KeptSetup
+pub mod Tidy
 pub mod Laws
 pub mod Examples

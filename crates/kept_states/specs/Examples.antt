@@ -1,11 +1,13 @@
 -- Worked examples: a control block and its call, an answer put in, and tables as they are kept. Assumes nothing.
+use Prim.Native.Nat.{ℕ}
 use mathlib.Core.Path.{_≡_, refl}
 use mathlib.Core.List.{List, [], _∷_}
-use Rattle.definition.specs.Table.{no-definition}
+use lib.ListN.{replicate}
+use Rattle.definition.specs.Table.{no-field, no-file, no-definition}
 use Rattle.definition.specs.declared.Format.the-variants.{Binary}
 use Rattle.definition.specs.declared.FieldOption.the-variants.{Descriptor}
 use Rattle.definition.specs.declared.Definition.{Definition}
-use Rattle.kept_tables.specs.KeptTables.{format-numbered, option-numbered, bytes-known, fields-known, thawed-field, thawed-file}
+use Rattle.kept_tables.specs.KeptTables.{format-numbered, option-numbered, bytes-known, fields-known, files-known, thawed-field, thawed-file, thawed-files}
 use Rattle.kept_tables.specs.declared.KeptFile.{KeptFile}
 use Rattle.nucleus.specs.declared.Response.the-variants.{Good}
 use Rattle.kept_states.specs.KeptStates.{thawed-table, call-of, answered}
@@ -50,12 +52,15 @@ answer : answered 0 (record { response = Good; isn = 7; quantity = 3; sequence =
 unfolding asked told answered
 answer = refl
 
--- a file of one field, AA, binary, 2 bytes, a descriptor; and the same with a byte that numbers no option
-kept : List KeptFile
-kept = record { number = 1; count = 1; «max_isn» = 9; fields = record { first = 65; second = 65; length = 2; format = 1; option = 1 } ∷ [] } ∷ []
-
-spoilt : List KeptFile
-spoilt = record { number = 1; count = 1; «max_isn» = 9; fields = record { first = 65; second = 65; length = 2; format = 1; option = 3 } ∷ [] } ∷ []
+-- a file that has in its first place the field AA, binary, 2 bytes, a descriptor, and in its second a byte that numbers no option: with the first place
+-- alone in use it is a table, and with both it is none
+kept : ℕ → List KeptFile
+kept count = record {
+  number = 1;
+  count = count;
+  «max_isn» = 9;
+  fields = record { first = 65; second = 65; length = 2; format = 1; option = 1 } ∷ record { first = 65; second = 66; length = 2; format = 1; option = 3 } ∷ [];
+} ∷ []
 
 defined : Definition
 defined = record {
@@ -64,14 +69,14 @@ defined = record {
     number = 1;
     «max_isn» = 9;
     count = 1;
-    fields = record { name = record { first = 65; second = 65 }; length = 2; format = Binary; option = Descriptor } ∷ [];
-  } ∷ [];
+    fields = record { name = record { first = 65; second = 65 }; length = 2; format = Binary; option = Descriptor } ∷ replicate 15 no-field;
+  } ∷ replicate 15 no-file;
 }
 
-table : thawed-table 1 kept ≡ defined
-unfolding kept defined thawed-table fields-known bytes-known thawed-file thawed-field format-numbered option-numbered
+table : thawed-table 1 (kept 1) ≡ defined
+unfolding kept defined thawed-table files-known fields-known bytes-known thawed-files thawed-file thawed-field format-numbered option-numbered
 table = refl
 
-no-table : thawed-table 1 spoilt ≡ no-definition
-unfolding spoilt thawed-table fields-known bytes-known
+no-table : thawed-table 1 (kept 2) ≡ no-definition
+unfolding kept thawed-table files-known fields-known bytes-known
 no-table = refl

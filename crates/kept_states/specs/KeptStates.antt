@@ -3,10 +3,9 @@
 use Prim.Native.Nat.{ℕ}
 use mathlib.Core.List.{List, map}
 use Rattle.lists.specs.Tests.{cond}
-use Rattle.lists.specs.Folds.{all}
 use Rattle.definition.specs.Table.{no-definition}
 use Rattle.definition.specs.declared.Definition.{Definition}
-use Rattle.kept_tables.specs.KeptTables.{fields-known, thawed-file, frozen-file}
+use Rattle.kept_tables.specs.KeptTables.{files-known, thawed-files, frozen-file}
 use Rattle.kept_tables.specs.declared.KeptFile.{KeptFile}
 use Rattle.nucleus.specs.Responses.{number}
 use Rattle.nucleus.specs.declared.Answer.{Answer}
@@ -17,9 +16,9 @@ use Rattle.kept_states.specs.declared.ControlBlock.{ControlBlock}
 use Rattle.kept_states.specs.declared.Left.{Left}
 
 -- ---- the state
--- a table with a byte that numbers no format or option is none: where a nucleus was not set up the state has that too, and every call answers 12
+-- a table with a byte in use that numbers no format or option is none: where a nucleus was not set up the state has that too, and every call answers 12
 unfoldable pub thawed-table : ℕ → List KeptFile → Definition
-thawed-table count files = cond (all fields-known files) (record { count = count; files = map thawed-file files }) no-definition
+thawed-table count files = cond (files-known count files) (record { count = count; files = thawed-files count files }) no-definition
 
 unfoldable pub thawed : KeptState → State
 thawed k = record {

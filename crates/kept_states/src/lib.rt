@@ -48,14 +48,14 @@ pub struct Left {
     pub response: u32,
 }
 
-// A table with a byte that numbers no format or option is none, so that every call on it answers 12.
-fn thawed_table(count: u8, files: [KeptFile; MAX_FILES]) -> Definition
+// A table with a byte in use that numbers no format or option is none, so that every call on it answers 12.
+pub fn thawed_table(count: u8, files: [KeptFile; MAX_FILES]) -> Definition
     ensures { λ r. ⌜ r ≡ thawed-table count files ⌝ }
 {
-    if !kept_tables::files_known(files) {
+    if !kept_tables::files_known(count, files) {
         return definition::no_definition();
     }
-    let thawed = kept_tables::thawed_files(files);
+    let thawed = kept_tables::thawed_files(count, files);
     Definition {
         count,
         files: thawed,

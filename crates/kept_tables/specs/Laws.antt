@@ -1,22 +1,26 @@
--- What is kept of a table is the table: frozen and thawed again it is what it was, and every byte is then known.
--- And the loop that writes an image of each element: one turn, and its end.
+-- What is kept of a table is the table: frozen and thawed again it is what it was, where its unused places are empty, and every byte is then known.
+-- And the loops over the first elements that test each, or write an image of it: one turn, and their ends.
 -- Assumes nothing.
-use Prim.Native.Nat.{ℕ, _+_, _≤_, _<_}
+use Prim.Native.Nat.{ℕ, zero, suc, _+_, _≤_, _<_}
 use native.Mathlib.Omega.{arith}
 use mathlib.Core.Path.{_≡_, refl, ap, sym, _∙_}
-use mathlib.Core.Bool.{Bool, true}
+use mathlib.Core.Bool.{Bool, true, false}
 use mathlib.Core.List.{List, [], _∷_, _++_, map}
 use lib.Dec.{ltb}
-use lib.ListN.{length, take, drop, getD, set, length-map, List·getD-map}
-use Rattle.lists.specs.Folds.{all}
-use Rattle.lists.specs.Rest.{write-more, write-all}
+use lib.ListN.{length, take, drop, getD, set, length-map, take-append-drop, List·getD-map}
+use Rattle.lists.specs.Folds.{all, Each, each-index}
+use Rattle.lists.specs.Every.{each-with}
+use Rattle.lists.specs.Maps.{take-map}
+use Rattle.lists.specs.Rest.{rest-more, rest-none, write-more, write-all}
+use Rattle.definition.specs.Table.{no-field, no-file, no-definition, field-count, fields-of, file-count, files-of}
 use Rattle.definition.specs.declared.Format.{Format}
 use Rattle.definition.specs.declared.Format.the-variants.{Alphanumeric, Binary, Unpacked, Packed}
 use Rattle.definition.specs.declared.FieldOption.{FieldOption}
 use Rattle.definition.specs.declared.FieldOption.the-variants.{Plain, Descriptor, Unique}
 use Rattle.definition.specs.declared.Field.{Field}
 use Rattle.definition.specs.declared.File.{File}
-use Rattle.kept_tables.specs.KeptTables.{format-number, option-number, format-numbered, option-numbered, bytes-known, fields-known, thawed-field, thawed-file, frozen-field, frozen-file}
+use Rattle.definition.specs.declared.Definition.{Definition}
+use Rattle.kept_tables.specs.KeptTables.{format-number, option-number, format-numbered, option-numbered, kept-file-count, bytes-known, fields-known, files-known, mapped, thawed-field, thawed-file, thawed-files, frozen-field, frozen-file}
 
 -- ---- frozen and thawed again
 format-back : (f : Format) → format-numbered (format-number f) ≡ f
@@ -36,16 +40,36 @@ pub field-back : (f : Field) → thawed-field (frozen-field f) ≡ f
 unfolding thawed-field frozen-field
 field-back f = λ i. record { name = f .name; length = f .length; format = format-back (f .format) i; option = option-back (f .option) i }
 
-map-back : {A B : Type 0} (g : A → B) (h : B → A) → ((x : A) → h (g x) ≡ x) → (l : List A) → map h (map g l) ≡ l
-map-back g h e [] = refl
-map-back g h e (x ∷ l) = λ i. e x i ∷ map-back g h e l i
+-- a file whose unused places are empty, and a definition of which each file in use is such a one and the other places are empty
+pub record TidyFile (f : File) : Type 0 where
+  pub unused : drop (field-count f) (f .fields) ≡ drop (field-count f) (no-file .fields)
 
-pub file-back : (f : File) → thawed-file (frozen-file f) ≡ f
+pub record Tidy (d : Definition) : Type 0 where
+  pub each-used : Each TidyFile (files-of d)
+  pub unused : drop (file-count d) (d .files) ≡ drop (file-count d) (no-definition .files)
+
+module _ {A B : Type 0} (g : A → B) (h : B → A) where
+  map-back : (l : List A) → Each (λ x. h (g x) ≡ x) l → map h (map g l) ≡ l
+  map-back [] e = refl
+  map-back (x ∷ l) e = λ i. (e .0 i) ∷ map-back l (e .1) i
+
+  -- the first n there and back, and behind them the same as before
+  mapped-back : (n : ℕ) (l rest : List A) → Each (λ x. h (g x) ≡ x) (take n l) → drop n l ≡ drop n rest → mapped h (map g l) rest n ≡ l
+  mapped-back n l rest e same =
+      (λ i. (take-map h n (map g l) ∙ ap (map h) (take-map g n l) ∙ map-back (take n l) e) i ++ sym same i) ∙ take-append-drop n l
+
+pub file-back : (f : File) → TidyFile f → thawed-file (frozen-file f) ≡ f
 unfolding thawed-file frozen-file
-file-back f = λ i. record { number = f .number; «max_isn» = f .«max_isn»; count = f .count; fields = map-back frozen-field thawed-field field-back (f .fields) i }
+file-back f t =
+    let each = each-index (λ x. thawed-field (frozen-field x) ≡ x) no-field (fields-of f) (λ i h. field-back _) in
+    let fields = mapped-back frozen-field thawed-field (field-count f) (f .fields) (no-file .fields) each (t .unused) in
+    λ i. record { number = f .number; «max_isn» = f .«max_isn»; count = f .count; fields = fields i }
 
-pub files-back : (l : List File) → map thawed-file (map frozen-file l) ≡ l
-files-back l = map-back frozen-file thawed-file file-back l
+pub files-back : (d : Definition) → Tidy d → thawed-files (d .count) (map frozen-file (d .files)) ≡ d .files
+unfolding thawed-files
+files-back d t =
+    let each = each-with TidyFile (λ f. thawed-file (frozen-file f) ≡ f) file-back (files-of d) (t .each-used) in
+    mapped-back frozen-file thawed-file (file-count d) (d .files) (no-definition .files) each (t .unused)
 
 -- ---- every byte of what was frozen is known
 format-known : (f : Format) → ltb (format-number f) 4 ≡ true
@@ -63,29 +87,38 @@ field-known : (f : Field) → bytes-known (frozen-field f) ≡ true
 unfolding bytes-known frozen-field
 field-known f = rw (format-known (f .format), option-known (f .option))
 
-map-known : {A B : Type 0} (p : B → Bool) (g : A → B) → ((x : A) → p (g x) ≡ true) → (l : List A) → all p (map g l) ≡ true
-map-known p g e [] = refl
-map-known p g e (x ∷ l) = rw (e x) (map-known p g e l)
+map-known : {A B : Type 0} (p : B → Bool) (g : A → B) → ((x : A) → p (g x) ≡ true) → (n : ℕ) (l : List A) → all p (take n (map g l)) ≡ true
+map-known p g e zero l = refl
+map-known p g e (suc n) [] = refl
+map-known p g e (suc n) (x ∷ l) = rw (e x) (map-known p g e n l)
 
 file-known : (f : File) → fields-known (frozen-file f) ≡ true
 unfolding fields-known frozen-file
-file-known f = map-known bytes-known frozen-field field-known (f .fields)
+file-known f = map-known bytes-known frozen-field field-known (field-count f) (f .fields)
 
-pub files-known : (l : List File) → all fields-known (map frozen-file l) ≡ true
-files-known l = map-known fields-known frozen-file file-known l
+pub frozen-known : (count : ℕ) (l : List File) → files-known count (map frozen-file l) ≡ true
+unfolding files-known
+frozen-known count l = map-known fields-known frozen-file file-known (kept-file-count count) l
+
+-- ---- a loop that tests the first n elements: one turn, and its two ends
+module _ {A : Type 0} (p : A → Bool) (n : ℕ) (l : List A) (i : ℕ) where
+  pub test-more : (d : A) → i < n → n ≤ length l → p (getD l i d) ≡ true → all p (drop i (take n l)) ≡ all p (drop (i + 1) (take n l))
+  test-more d h k t = rw (rest-more n l i d h k, t)
+
+  pub test-fails : (d : A) → i < n → n ≤ length l → p (getD l i d) ≡ false → all p (drop i (take n l)) ≡ false
+  test-fails d h k t = rw (rest-more n l i d h k, t)
+
+  pub test-passed : n ≤ i → all p (drop i (take n l)) ≡ true
+  test-passed h = rw (rest-none n l i h)
 
 -- ---- a loop that writes the image of each element
 module _ {A B : Type 0} (f : A → B) (l : List A) (old : List B) (i : ℕ) where
-  -- the images up to i, and the old elements from there on
-  abbrev pub mapped : List B
-  mapped = take i (map f l) ++ drop i old
-
-  pub map-more : (d : A) → i < length l → i < length old → set mapped i (f (getD l i d)) ≡ take (i + 1) (map f l) ++ drop (i + 1) old
+  pub map-more : (d : A) → i < length l → i < length old → set (mapped f l old i) i (f (getD l i d)) ≡ mapped f l old (i + 1)
   map-more d h k =
       let within : i < length (map f l) = omega (arith, h, length-map l f) in
-      ap (set mapped i) (sym (List·getD-map f l i d)) ∙ write-more (map f l) old i (f d) within k
+      ap (set (mapped f l old i) i) (sym (List·getD-map f l i d)) ∙ write-more (map f l) old i (f d) within k
 
-  pub map-all : length l ≤ i → length old ≤ i → mapped ≡ map f l
+  pub map-all : length l ≤ i → length old ≤ i → mapped f l old i ≡ map f l
   map-all h k =
       let past : length (map f l) ≤ i = omega (arith, h, length-map l f) in
       write-all (map f l) old i past k

@@ -1,9 +1,9 @@
 // A definition table as a caller in another language keeps it: plain numbers, a byte for each format and each option. From it to the files of a
 // definition and back.
+ghost use Prim.Native.Nat.{min};
 ghost use mathlib.Core.Path.{_≡_};
 ghost use mathlib.Core.List.{map};
-ghost use Rattle.lists.specs.Folds.{all};
-ghost use Rattle.kept_tables.specs.KeptTables.{format-numbered, option-numbered, format-number, option-number, thawed-field, thawed-file, frozen-field, frozen-file, bytes-known, fields-known};
+ghost use Rattle.kept_tables.specs.KeptTables.{format-numbered, option-numbered, format-number, option-number, thawed-field, thawed-file, thawed-files, frozen-field, frozen-file, bytes-known, fields-known, files-known};
 use definition::Field;
 use definition::FieldOption;
 use definition::File;
@@ -75,7 +75,15 @@ fn option_number(option: FieldOption) -> u8
     }
 }
 
-// ---- whether every byte is the number of a format or an option
+// ---- whether every byte in use is the number of a format or an option
+
+// The places in use. A count past the places counts as all of them.
+fn in_use(count: u8, places: usize) -> usize
+    ensures { λ r. ⌜ r ≡ min count places ⌝ }
+{
+    let n = count as usize;
+    if n < places { n } else { places }
+}
 
 fn bytes_known(k: KeptField) -> bool
     ensures { λ r. ⌜ r ≡ bytes-known k ⌝ }
@@ -89,8 +97,9 @@ fn bytes_known(k: KeptField) -> bool
 fn fields_known(k: KeptFile) -> bool
     ensures { λ r. ⌜ r ≡ fields-known k ⌝ }
 {
+    let n = in_use(k.count, MAX_FIELDS);
     let mut i = 0;
-    while i < MAX_FIELDS {
+    while i < n {
         let field = k.fields[i];
         if !bytes_known(field) {
             return false;
@@ -100,11 +109,12 @@ fn fields_known(k: KeptFile) -> bool
     true
 }
 
-pub fn files_known(files: [KeptFile; MAX_FILES]) -> bool
-    ensures { λ r. ⌜ r ≡ all fields-known files ⌝ }
+pub fn files_known(count: u8, files: [KeptFile; MAX_FILES]) -> bool
+    ensures { λ r. ⌜ r ≡ files-known count files ⌝ }
 {
+    let n = in_use(count, MAX_FILES);
     let mut i = 0;
-    while i < MAX_FILES {
+    while i < n {
         let file = files[i];
         if !fields_known(file) {
             return false;
@@ -114,7 +124,7 @@ pub fn files_known(files: [KeptFile; MAX_FILES]) -> bool
     true
 }
 
-// ---- from what is kept
+// ---- from what is kept. Only places in use are looked at: those behind a count are thawed as empty ones
 
 fn thawed_field(k: KeptField) -> Field
     ensures { λ r. ⌜ r ≡ thawed-field k ⌝ }
@@ -135,10 +145,11 @@ fn thawed_field(k: KeptField) -> Field
 fn thawed_file(k: KeptFile) -> File
     ensures { λ r. ⌜ r ≡ thawed-file k ⌝ }
 {
-    let first = k.fields[0];
-    let mut fields = [thawed_field(first); MAX_FIELDS];
+    let n = in_use(k.count, MAX_FIELDS);
+    let blank = definition::no_file();
+    let mut fields = blank.fields;
     let mut i = 0;
-    while i < MAX_FIELDS {
+    while i < n {
         let field = k.fields[i];
         fields[i] = thawed_field(field);
         i += 1;
@@ -151,13 +162,13 @@ fn thawed_file(k: KeptFile) -> File
     }
 }
 
-pub fn thawed_files(kept: [KeptFile; MAX_FILES]) -> [File; MAX_FILES]
-    ensures { λ r. ⌜ r ≡ map thawed-file kept ⌝ }
+pub fn thawed_files(count: u8, kept: [KeptFile; MAX_FILES]) -> [File; MAX_FILES]
+    ensures { λ r. ⌜ r ≡ thawed-files count kept ⌝ }
 {
-    let first = kept[0];
-    let mut files = [thawed_file(first); MAX_FILES];
+    let n = in_use(count, MAX_FILES);
+    let mut files = [definition::no_file(); MAX_FILES];
     let mut i = 0;
-    while i < MAX_FILES {
+    while i < n {
         let file = kept[i];
         files[i] = thawed_file(file);
         i += 1;

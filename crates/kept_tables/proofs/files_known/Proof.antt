@@ -1,30 +1,28 @@
--- `files_known` meets its contract. The loop's invariant: what is asked of all files is asked from here on.
+-- `files_known` meets its contract. The loop's invariant: what is asked of all files in use is asked from here on.
 -- Assumes nothing.
 use Prim.Native.Nat.{_-_, _≤_}
 use native.Mathlib.Omega.{arith}
 use mathlib.Core.Path.{_≡_, refl, sym, _∙_}
-use mathlib.Core.List.{[]}
-use lib.ListN.{drop}
+use lib.ListN.{length, drop}
 use borrow.Author.Tests.{not-true, not-false}
 use borrow.Author.Needs.{needs}
 use Rattle.lists.specs.Folds.{all}
-use Rattle.kept_tables.specs.KeptTables.{fields-known}
-use Rattle.lists.specs.Rest.{all-more, all-fails, all-passed}
-use Rattle.kept_tables.specs.declared.KeptFile.{KeptFile}
+use Rattle.kept_tables.specs.KeptTables.{kept-file-count, kept-files-of, fields-known, files-known}
+use Rattle.kept_tables.specs.Laws.{test-more, test-fails, test-passed}
 use Rattle.kept_tables.proofs.files_known.Statement.{statement}
 use Rattle.kept_tables.proofs.files_known.Tie as tie
 
-abbrev none : KeptFile
-none = record { number = 0; count = 0; «max_isn» = 0; fields = [] }
-
 abbrev Inv-loop : tie.InvT-loop
-Inv-loop files i₀ i = (i ≤ 16) × (all fields-known files ≡ all fields-known (drop i files))
+Inv-loop count files n i₀ i = (n ≡ kept-file-count count) × (i ≤ n) × (all fields-known (kept-files-of count files) ≡ all fields-known (drop i (kept-files-of count files)))
 
 abbrev μ-loop : tie.MeasureT-loop
-μ-loop files i₀ i = 16 - i
+μ-loop count files n i₀ i = n - i
+
+in-use-requires : tie.Need-in-use-requires Inv-loop μ-loop
+in-use-requires c κs = search needs
 
 loop-holds : tie.Need-loop-holds Inv-loop μ-loop
-loop-holds c = (omega arith, refl)
+loop-holds c = (c .in-use .ensures, omega arith, refl)
 
 mul-file : tie.Need-mul-file Inv-loop μ-loop
 mul-file c = omega arith
@@ -36,11 +34,15 @@ fields-known-requires : tie.Need-fields-known-requires Inv-loop μ-loop
 fields-known-requires c κs = search needs
 
 returns : tie.Need-returns Inv-loop μ-loop
+unfolding files-known
 returns c =
     let l = c .before .before .before .before in
-    let files = l .before .args .t1 in
+    let s = l .before .before in
+    let count = s .args .count in
+    let files = s .args .t2 in
     let no = sym (c .before .fields-known .ensures) ∙ not-true _ (c .if1 .taken) in
-    sym (l .loop .inv .1 ∙ all-fails fields-known files (l .loop .i) _ (search needs) no)
+    let room : kept-file-count count ≤ length files = search needs in
+    sym (l .loop .inv .2 ∙ test-fails fields-known (kept-file-count count) files (l .loop .i) _ (omega (arith, l .loop .inv .0)) room no)
 
 add-i : tie.Need-add-i Inv-loop μ-loop
 add-i c = omega arith
@@ -51,14 +53,21 @@ loop-less c = omega arith
 loop-again : tie.Need-loop-again Inv-loop μ-loop
 loop-again c =
     let l = c .before .before .before .before in
-    let files = l .before .args .t1 in
+    let s = l .before .before in
+    let count = s .args .count in
+    let files = s .args .t2 in
     let yes = sym (c .before .fields-known .ensures) ∙ not-false _ (c .if1 .left) in
-    (omega arith, l .loop .inv .1 ∙ all-more fields-known files (l .loop .i) _ (search needs) yes)
+    let room : kept-file-count count ≤ length files = search needs in
+    let turn = test-more fields-known (kept-file-count count) files (l .loop .i) _ (omega (arith, l .loop .inv .0)) room yes in
+    (l .loop .inv .0, omega arith, l .loop .inv .2 ∙ turn)
 
 returns-2 : tie.Need-returns-2 Inv-loop μ-loop
+unfolding files-known
 returns-2 c =
     let l = c .before in
-    sym (l .loop .inv .1 ∙ all-passed fields-known (l .before .args .t1) (l .loop .i) none (search needs))
+    let count = l .before .before .args .count in
+    let files = l .before .before .args .t2 in
+    sym (l .loop .inv .2 ∙ test-passed fields-known (kept-file-count count) files (l .loop .i) (omega (arith, l .loop .inv .0)))
 
 pub files-known-spec : {M : Type 1} → statement M
 files-known-spec =
@@ -66,6 +75,7 @@ files-known-spec =
     (tie.spec
     Inv-loop
     μ-loop
+    in-use-requires
     loop-holds
     mul-file
     array-copy-out-file
