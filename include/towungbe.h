@@ -24,7 +24,7 @@
  *   - Too little stack. A call takes some 40 kilobytes of it; let a thread have 64 or more.
  *
  * In these cases anything may happen, as with any C function. Everything else is answered: a state that nobody set up or
- * that was damaged gets 12, short buffers get 11, and unknown numbers in format and option bytes of a kept field get 12.
+ * that was damaged gets 12, also where a field has an unknown format or option number, and short buffers get 11.
  */
 #ifndef TOWUNGBE_H
 #define TOWUNGBE_H
@@ -88,8 +88,8 @@ typedef struct {
 } towungbe_entry;
 
 /*
- * A field of a file, as the table defines it. Places without a field, behind a count, may have anything; but an unknown
- * format or option number in any place, also there, makes the state one that is not well made.
+ * A field of a file, as the table defines it. A field with an unknown format or option number makes the state one that is
+ * not well made. Places behind a count, of fields or of files, are not looked at and may have anything.
  */
 typedef struct {
     uint8_t first, second; /* the two characters of its name */

@@ -273,20 +273,39 @@ fn compare_sizes(table: &[u8], capacity: usize, needed: [usize; 3]) -> Result<()
     }
 }
 
-/// A byte that numbers no format or option, in any place of the kept table, makes the table invalid. The second
-/// implementation keeps other bytes, so the answer is document 01's: 12, and all is left as it was.
+/// A byte that numbers no format or option, in a place of the kept table. Behind a count it makes no difference; in use it
+/// makes the table invalid.
 fn unknown_byte(random: &mut Random, counts: &mut Counts) -> Result<(), String> {
-    let (machine, _, list_call) = any_state::aimed(random);
+    let (mut machine, _, list_call) = any_state::aimed(random);
     let twin = &mut Twin::of(&machine);
-    let file = random.below(raw::FILES as u64) as usize;
-    let place = random.below(raw::FIELDS as u64) as usize;
-    let field = &mut twin.state.files[file].fields[place];
+    let (files, file) = any_place(random, twin.state.count, raw::FILES);
+    let (fields, field) = any_place(random, twin.state.files[file].count, raw::FIELDS);
+    spoil(random, &mut twin.state.files[file].fields[field]);
+    let found = match file < files && field < fields {
+        true => refused(twin, &list_call, counts),
+        false => step(&mut machine, twin, &list_call, counts),
+    };
+    found.map_err(at(&format!("file {file}, field"), field))
+}
+
+/// How many places are in use, and one of these or the first behind them.
+fn any_place(random: &mut Random, count: u8, places: usize) -> (usize, usize) {
+    let used = usize::from(count).min(places);
+    let last = used.min(places - 1);
+    (used, random.between(0, last as u64) as usize)
+}
+
+fn spoil(random: &mut Random, field: &mut raw::Field) {
     match random.once_in(2) {
         true => field.format = random.between(4, 255) as u8,
         false => field.option = random.between(3, 255) as u8,
     }
+}
+
+/// The second implementation keeps other bytes, so the answer is document 01's: 12, and all is left as it was.
+fn refused(twin: &mut Twin, list_call: &ListCall, counts: &mut Counts) -> Result<(), String> {
     let before = twin.clone();
-    let given = twin.call(&list_call)?;
+    let given = twin.call(list_call)?;
     counts.call(given.answer.response.to_string());
     let stays = before.state == twin.state
         && before.store == twin.store
@@ -297,8 +316,6 @@ fn unknown_byte(random: &mut Random, counts: &mut Counts) -> Result<(), String> 
     match (given.answer.response, stays) {
         (12, true) => Ok(()),
         (12, false) => Err("12 leaves something changed".to_string()),
-        (response, _) => Err(format!(
-            "field {place} of file {file} is unknown, and the answer {response}"
-        )),
+        (response, _) => Err(format!("a byte is unknown, and the answer {response}")),
     }
 }

@@ -40,8 +40,8 @@ pub struct Field {
     pub option: u8,
 }
 
-/// A file. Places past the count mean nothing, but an unknown format or option number there makes a state one that is not
-/// well made, as in any place.
+/// A file. Places past the count mean nothing, whatever stands there. An unknown format or option number of a field makes a
+/// state one that is not well made.
 #[repr(C)]
 #[derive(Clone, Copy, Debug, Default, PartialEq, Eq)]
 pub struct File {
