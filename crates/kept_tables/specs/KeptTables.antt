@@ -48,7 +48,7 @@ kept-file-count count = min count max-files
 abbrev pub kept-files-of : ℕ → List KeptFile → List KeptFile
 kept-files-of count files = take (kept-file-count count) files
 
--- whether both bytes of a field are such numbers; of the fields of a file; of the files of a table. What stands in a place behind a count means nothing
+-- ---- whether both bytes of a field are such numbers; of each field of a file; of each file of a table
 unfoldable pub bytes-known : KeptField → Bool
 bytes-known k = ltb (k .format) 4 && ltb (k .option) 3
 

@@ -75,15 +75,16 @@ fn option_number(option: FieldOption) -> u8
     }
 }
 
-// ---- whether every byte in use is the number of a format or an option
+// ---- what is in use: the first `count` places. A count past the places counts as all of them
 
-// The places in use. A count past the places counts as all of them.
 fn in_use(count: u8, places: usize) -> usize
     ensures { λ r. ⌜ r ≡ min count places ⌝ }
 {
     let n = count as usize;
     if n < places { n } else { places }
 }
+
+// ---- whether every byte in use is the number of a format or an option
 
 fn bytes_known(k: KeptField) -> bool
     ensures { λ r. ⌜ r ≡ bytes-known k ⌝ }
@@ -124,7 +125,7 @@ pub fn files_known(count: u8, files: [KeptFile; MAX_FILES]) -> bool
     true
 }
 
-// ---- from what is kept. Only places in use are looked at: those behind a count are thawed as empty ones
+// ---- from what is kept. Only places in use are looked at, which are few: one behind a count is thawed as an empty one
 
 fn thawed_field(k: KeptField) -> Field
     ensures { λ r. ⌜ r ≡ thawed-field k ⌝ }
