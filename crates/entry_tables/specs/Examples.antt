@@ -1,4 +1,4 @@
--- Worked examples: the tables of two files and three users, and entries judged by them. Assumes nothing.
+-- Worked examples: the table of two files, and entries of three users judged by it. Assumes nothing.
 use Prim.Native.Nat.{ℕ}
 use mathlib.Core.Path.{_≡_, refl}
 use mathlib.Core.Bool.{true, false}
@@ -7,7 +7,7 @@ use Rattle.definition.specs.declared.File.{File}
 use Rattle.entries.specs.declared.Entry.{Entry}
 use Rattle.nucleus.specs.Users.{started, opening, fresh-user}
 use Rattle.nucleus.specs.declared.User.{User}
-use Rattle.entry_tables.specs.Tables.{highest-in, active-users, entry-fits}
+use Rattle.entry_tables.specs.Tables.{highest-in, entry-fits}
 
 file : ℕ → ℕ → File
 file number highest = record { number = number; «max_isn» = highest; count = 0; fields = [] }
@@ -22,10 +22,6 @@ highest : highest-in files ≡ 0 ∷ 0 ∷ 0 ∷ 7 ∷ 0 ∷ 0 ∷ 0 ∷ 0 ∷ 0
 unfolding file files highest-in
 highest = refl
 
-active : active-users users ≡ false ∷ true ∷ false ∷ false ∷ []
-unfolding users active-users
-active = refl
-
 entry : ℕ → ℕ → ℕ → Entry
 entry user number isn = record { user = user; file = number; isn = isn; changed = false; existed = false }
 
@@ -33,6 +29,6 @@ entry user number isn = record { user = user; file = number; isn = isn; changed 
 entries : List Entry
 entries = entry 1 3 7 ∷ entry 1 3 8 ∷ entry 1 4 1 ∷ entry 1 3 0 ∷ entry 2 3 7 ∷ entry 0 3 7 ∷ []
 
-judged : map (entry-fits (highest-in files) (active-users users)) entries ≡ true ∷ false ∷ false ∷ false ∷ false ∷ false ∷ []
-unfolding file files users entry entries highest-in active-users entry-fits
+judged : map (entry-fits (highest-in files) users) entries ≡ true ∷ false ∷ false ∷ false ∷ false ∷ false ∷ []
+unfolding file files users entry entries highest-in entry-fits
 judged = refl

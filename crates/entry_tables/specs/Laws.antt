@@ -1,17 +1,16 @@
--- An entry judged by the two tables is judged as by files and users, where the definition is valid.
+-- An entry judged by the table is judged as by the files, where the definition is valid.
 -- Assumes nothing.
 use Prim.Native.Nat.{ℕ, zero, suc, _-_, _≤_, _<_, suc-le-suc}
 use native.Mathlib.Nat.{not-suc-le-zero, le-of-suc-le-suc}
-use native.Mathlib.Numerals.{add-one}
 use native.Mathlib.Omega.{arith}
 use mathlib.Core.Path.{_≡_, refl, sym, ap, _∙_}
-use mathlib.Core.Bool.{Bool, true, false, _&&_}
+use mathlib.Core.Bool.{Bool, true, false}
 use mathlib.Core.List.{List, [], _∷_}
 use lib.Dec.{ltb}
 use lib.ListN.{length, getD, List·getD-eq-default}
 use lib.Seq.{getD-take, length-take-le}
 use borrow.Author.Tests.{eq-eqb, ne-eqb, ltb-true, ltb-false}
-use Rattle.lists.specs.Tests.{Outcome, holds, fails, outcome, within, within-inside, within-above}
+use Rattle.lists.specs.Tests.{Outcome, holds, fails, outcome, within, within-inside, and-false}
 use Rattle.lists.specs.Folds.{all}
 use Rattle.definition.specs.Table.{beyond, file-at, file-count, files-of}
 use Rattle.definition.specs.Shape.{DefinitionShape}
@@ -29,8 +28,8 @@ use Rattle.nucleus.specs.Nucleus.{max-users}
 use Rattle.nucleus.specs.WellMade.{entry-made}
 use Rattle.nucleus.specs.declared.User.{User}
 use Rattle.nucleus.specs.declared.State.{State}
-use Rattle.entry_tables.specs.Tables.{highest-isn, highest-isns, active-users, entry-fits}
-use Rattle.entry_tables.specs.Turns.{within-nothing, length-highest, highest-at, nobody-at, active-at}
+use Rattle.entry_tables.specs.Tables.{highest-isn, highest-isns, entry-fits}
+use Rattle.entry_tables.specs.Turns.{within-nothing, length-highest, highest-at}
 
 -- ---- the first of some files that has a number
 abbrev Has : List File → ℕ → ℕ → Type 0
@@ -83,29 +82,29 @@ module _ (d : Definition) (s : DefinitionShape d) (v : valid d ≡ true) where
       go (At i) e = rw (place-highest n i e)
       go Nowhere e = rw (none-highest n e) (within-nothing isn)
 
--- ---- users
-user-judged : (users : List User) (u : ℕ) → length users ≡ max-users → getD (active-users users) u false ≡ (within 1 max-users u && is-active (getD users (u - 1) fresh-user))
-user-judged users zero h = nobody-at users
-user-judged users (suc u) h =
-    let at : getD (active-users users) (suc u) false ≡ is-active (getD users u fresh-user) = rw add-one at (active-at users u fresh-user refl) in
-    let before : suc u - 1 ≡ u = omega arith in
-    rw before (at ∙ go (outcome (ltb u max-users)))
-  where
-    go : Outcome (ltb u max-users) → is-active (getD users u fresh-user) ≡ (within 1 max-users (suc u) && is-active (getD users u fresh-user))
-    go (holds t) = rw (within-inside 1 max-users (suc u) (omega arith) (omega (arith, ltb-true u max-users t)))
-    go (fails t) =
-        let past : length users ≤ u = omega (arith, h, ltb-false u max-users t) in
-        rw (within-above 1 max-users (suc u) (omega arith), List·getD-eq-default users fresh-user past)
-
 -- ---- entries
 all-agree : {A : Type 0} (p r : A → Bool) → ((x : A) → p x ≡ r x) → (l : List A) → all p l ≡ all r l
 all-agree p r h [] = refl
 all-agree p r h (x ∷ l) = rw (h x, all-agree p r h l)
 
-pub entries-judged : (s : State) → DefinitionShape (s .definition) → valid (s .definition) ≡ true → length (s .users) ≡ max-users → (es : List Entry)
-    → all (entry-fits (highest-isns (s .definition)) (active-users (s .users))) es ≡ all (entry-made s) es
+pub entries-judged : (s : State) → DefinitionShape (s .definition) → valid (s .definition) ≡ true → (es : List Entry)
+    → all (entry-fits (highest-isns (s .definition)) (s .users)) es ≡ all (entry-made s) es
 unfolding entry-fits
-entries-judged s shape v h es = all-agree (entry-fits (highest-isns (s .definition)) (active-users (s .users))) (entry-made s) each es
+entries-judged s shape v es = all-agree (entry-fits (highest-isns (s .definition)) (s .users)) (entry-made s) each es
   where
-    each : (e : Entry) → entry-fits (highest-isns (s .definition)) (active-users (s .users)) e ≡ entry-made s e
-    each e = rw (isn-judged (s .definition) shape v (e .file) (e .isn), user-judged (s .users) (e .user) h)
+    each : (e : Entry) → entry-fits (highest-isns (s .definition)) (s .users) e ≡ entry-made s e
+    each e = rw (isn-judged (s .definition) shape v (e .file) (e .isn))
+
+-- ---- one entry, as code judges it: its ISN, then its user
+module _ (highest : List ℕ) (users : List User) (e : Entry) where
+  pub unfit-isn : within 1 (getD highest (e .file) 0) (e .isn) ≡ false → entry-fits highest users e ≡ false
+  unfolding entry-fits
+  unfit-isn e₁ = rw e₁
+
+  pub unfit-user : within 1 max-users (e .user) ≡ false → entry-fits highest users e ≡ false
+  unfolding entry-fits
+  unfit-user e₁ = rw e₁ (and-false (within 1 (getD highest (e .file) 0) (e .isn)))
+
+  pub fit-by-user : within 1 (getD highest (e .file) 0) (e .isn) ≡ true → 1 ≤ e .user → e .user ≤ max-users → entry-fits highest users e ≡ is-active (getD users (e .user - 1) fresh-user)
+  unfolding entry-fits
+  fit-by-user e₁ least most = rw (e₁, within-inside 1 max-users (e .user) least most)

@@ -1,22 +1,19 @@
--- What the loops that make the two tables go by, and what the tables hold at a place.
+-- What the loop that makes the table goes by, and what the table holds at a place.
 -- Assumes nothing.
 use Prim.Native.Nat.{ℕ, zero, suc, _+_, _<_}
 use native.Mathlib.Nat.{not-suc-le-zero, le-of-suc-le-suc, add-zero, zero-add}
-use native.Mathlib.Numerals.{add-one}
 use native.Mathlib.Omega.{arith}
 use mathlib.Core.Path.{_≡_, refl, sym, ap, _∙_}
 use mathlib.Core.Bool.{false}
 use mathlib.Core.List.{List, [], _∷_, map}
 use lib.Dec.{eqb}
-use lib.ListN.{length, getD, set, replicate, length-set, length-map, take, List·getD-map}
+use lib.ListN.{length, getD, set, replicate, length-set, length-map}
 use lib.Seq.{ext-getD, getD-set-same, getD-set-other}
 use borrow.Author.Tests.{eqb-true, eqb-false}
 use Rattle.lists.specs.Tests.{within, within-above, Outcome, holds, fails, outcome}
 use Rattle.lists.specs.Numbers.{numbers}
 use Rattle.definition.specs.declared.File.{File}
-use Rattle.nucleus.specs.Users.{is-active}
-use Rattle.nucleus.specs.declared.User.{User}
-use Rattle.entry_tables.specs.Tables.{highest-isn, highest-in, active-users}
+use Rattle.entry_tables.specs.Tables.{highest-isn, highest-in}
 
 -- ---- no number is within nothing
 pub within-nothing : (n : ℕ) → within 1 0 n ≡ false
@@ -62,21 +59,3 @@ highest-more f fs =
         rw (t, e) (getD-set-same (highest-in fs) i (f .«max_isn») 0 (omega (arith, length-highest fs)))
     go i k (fails t) =
         rw t (getD-set-other (highest-in fs) (f .number) i (f .«max_isn») 0 (λ e. eqb-false (f .number) i t (sym e)) ∙ highest-at fs i k)
-
--- ---- who is in a transaction
-pub length-active : (users : List User) → length (active-users users) ≡ suc (length users)
-unfolding active-users
-length-active users = ap suc (length-map users is-active)
-
--- one read past the list's end is in none
-pub active-at : (users : List User) (u : ℕ) (d : User) → is-active d ≡ false → getD (active-users users) (u + 1) false ≡ is-active (getD users u d)
-unfolding active-users
-active-at users u d e = rw (add-one u, ← e) (List·getD-map is-active users u d)
-
-pub nobody-at : (users : List User) → getD (active-users users) 0 false ≡ false
-unfolding active-users
-nobody-at users = refl
-
-pub nobody-active : (users : List User) → take 1 (active-users users) ≡ false ∷ []
-unfolding active-users
-nobody-active users = refl

@@ -1,19 +1,18 @@
-// Whether the entries of the hold queue are well made (document 01, below the table of responses): they are judged by two tables that are made once.
+// Whether the entries of the hold queue are well made (document 01, below the table of responses): their ISNs are judged by a table that is made once.
 ghost use mathlib.Core.Path.{_≡_};
-ghost use lib.ListN.{length};
+ghost use lib.ListN.{length, getD};
+ghost use Rattle.lists.specs.Tests.{within};
 ghost use Rattle.lists.specs.Folds.{all};
 ghost use Rattle.entries.specs.Entries.{entries};
-ghost use Rattle.entry_tables.specs.Tables.{highest-isns, active-users, entry-fits};
+ghost use Rattle.entry_tables.specs.Tables.{highest-isns, entry-fits};
 use definition::Definition;
 use definition::MAX_NUMBER;
 use entries::Entry;
 use nucleus::MAX_USERS;
 use nucleus::User;
 
-// A place for each file number, and for each user, from 0.
+// A place for each file number, from 0.
 const NUMBERS: usize = MAX_NUMBER + 1;
-
-const USERS: usize = MAX_USERS + 1;
 
 fn wide(x: u8) -> usize
     ensures { λ r. ⌜ r ≡ x ⌝ }
@@ -38,24 +37,9 @@ fn highest_isns(d: Definition) -> [u16; NUMBERS]
     table
 }
 
-// Who is in a transaction, by user; nobody is user 0.
-fn active_users(users: [User; MAX_USERS]) -> [bool; USERS]
-    ensures { λ r. ⌜ r ≡ active-users users ⌝ }
-{
-    let mut table = [false; USERS];
-    let mut i = 0;
-    while i < MAX_USERS {
-        let u = users[i];
-        let t = u.transaction;
-        table[i + 1] = t.active;
-        i += 1;
-    }
-    table
-}
-
-fn entry_fits(e: Entry, highest: &[u16; NUMBERS], active: &[bool; USERS]) -> bool
-    requires { ⌜ (length (now highest) ≡ 17) × (length (now active) ≡ 33) ⌝ }
-    ensures { λ r. ⌜ r ≡ entry-fits (now (highest .entry)) (now (active .entry)) e ⌝ }
+fn within_file(e: Entry, highest: &[u16; NUMBERS]) -> bool
+    requires { ⌜ length (now highest) ≡ 17 ⌝ }
+    ensures { λ r. ⌜ r ≡ within 1 (getD (now (highest .entry)) (e .file) 0) (e .isn) ⌝ }
 {
     let file = e.file as usize;
     if NUMBERS <= file {
@@ -64,42 +48,47 @@ fn entry_fits(e: Entry, highest: &[u16; NUMBERS], active: &[bool; USERS]) -> boo
     if e.isn == 0 {
         return false;
     }
-    if highest[file] < e.isn {
-        return false;
-    }
-    let user = e.user as usize;
-    if USERS <= user {
-        return false;
-    }
-    active[user]
+    e.isn <= highest[file]
 }
 
+// Users are looked at in their places: a call that took them would copy them all at each entry.
 fn entries_fit(
     queue: &[u64],
     count: usize,
     highest: &[u16; NUMBERS],
-    active: &[bool; USERS],
+    users: [User; MAX_USERS],
 ) -> bool
-    requires { ⌜ (length (now highest) ≡ 17) × (length (now active) ≡ 33) ⌝ }
-    ensures { λ r. ⌜ r ≡ all (entry-fits (now (highest .entry)) (now (active .entry))) (entries (now (queue .entry)) count) ⌝ }
+    requires { ⌜ length (now highest) ≡ 17 ⌝ }
+    ensures { λ r. ⌜ r ≡ all (entry-fits (now (highest .entry)) users) (entries (now (queue .entry)) count) ⌝ }
 {
     let n = slices::least(count, queue.len());
     let mut i = 0;
     while i < n {
         let e = entries::unpack(queue[i]);
-        if !entry_fits(e, highest, active) {
+        i += 1;
+        if !within_file(e, highest) {
             return false;
         }
-        i += 1;
+        let user = e.user as usize;
+        if user < 1 {
+            return false;
+        }
+        if MAX_USERS < user {
+            return false;
+        }
+        let u = users[user - 1];
+        let t = u.transaction;
+        if !t.active {
+            return false;
+        }
     }
     true
 }
 
-// Every entry is within its file and of a user in a transaction: by the tables, which say so of a valid definition (`entries-judged`).
+// Every entry is within its file and of a user in a transaction: by the table, which says so of a valid definition (`entries-judged`).
 pub fn entries_made(d: Definition, users: [User; MAX_USERS], queue: &[u64], count: usize) -> bool
-    ensures { λ r. ⌜ r ≡ all (entry-fits (highest-isns d) (active-users users)) (entries (now (queue .entry)) count) ⌝ }
+    ensures { λ r. ⌜ r ≡ all (entry-fits (highest-isns d) users) (entries (now (queue .entry)) count) ⌝ }
 {
     let highest = highest_isns(d);
-    let active = active_users(users);
-    entries_fit(queue, count, &highest, &active)
+    entries_fit(queue, count, &highest, users)
 }

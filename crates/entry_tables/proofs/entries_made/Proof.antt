@@ -8,18 +8,14 @@ use Rattle.entry_tables.proofs.entries_made.Tie as tie
 highest-isns-requires : tie.Need-highest-isns-requires
 highest-isns-requires c κs = search needs
 
-active-users-requires : tie.Need-active-users-requires
-active-users-requires c κs = search needs
-
 entries-fit-requires : tie.Need-entries-fit-requires
 entries-fit-requires c κs = search needs
 
 returns : tie.Need-returns
 returns c =
-    let a = c .before .before .before .active-users in
-    let h = c .before .before .before .before .highest-isns in
-    c .entries-fit .ensures ∙ rw (h .ensures, a .ensures)
+    let h = c .before .before .highest-isns in
+    c .entries-fit .ensures ∙ rw (h .ensures)
 
 pub entries-made-spec : {M : Type 1} → statement M
 entries-made-spec =
-    tie.close (tie.spec highest-isns-requires active-users-requires entries-fit-requires returns)
+    tie.close (tie.spec highest-isns-requires entries-fit-requires returns)

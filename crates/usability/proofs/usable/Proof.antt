@@ -57,7 +57,7 @@ entries-are : (c : tie.After-entries-made) → c .entries-made .result ≡ all (
 entries-are c =
     let s = start (judged c) in
     let shape = state-known (s .args .state) _ (s .good .0) in
-    c .entries-made .ensures ∙ entries-judged (s .args .state) (shape .definition) (table-valid (judged c .before .before)) (shape .users) (entries-of (lent s))
+    c .entries-made .ensures ∙ entries-judged (s .args .state) (shape .definition) (table-valid (judged c .before .before)) (entries-of (lent s))
 
 valid-requires : tie.Need-valid-requires
 valid-requires c κs = search needs
