@@ -1,138 +1,104 @@
--- `restore` meets its contract. The loop's invariant: what is left to put back makes the same store.
+-- `restore` meets its contract: what the tables say is what `put_back_all` asks of them.
 -- Assumes nothing.
-use mathlib.Core.List.{List, _∷_}
-use lib.ListN.{getD, length, take, drop}
-use Rattle.entries.specs.Entries.{unpack-of, entries}
-use Rattle.entries.specs.declared.Entry.{Entry}
-use Rattle.definition.specs.declared.Definition.{Definition}
-use native.Mathlib.Nat.{zero-mul, mul-le-mul-right}
 use native.Mathlib.Omega.{arith}
-use mathlib.Core.Path.{_≡_, refl, sym, ap, _∙_}
 use borrow.Author.Needs.{needs}
-use Prim.Native.Nat.{ℕ, _+_, _-_, _*_, _≤_}
-use lib.Seq.{drop-drop}
+use Prim.Native.Nat.{_*_}
+use mathlib.Core.Path.{_≡_, sym, ap, _∙_}
+use mathlib.Core.List.{map}
+use mathlib.Core.Bool.{true}
+use lib.Dec.{leb}
+use lib.ListN.{length, take, getD}
+use lib.Seq.{length-take-le}
 use borrow.Author.Tests.{leb-true, not-true, not-false}
-use Rattle.entries.specs.Laws.{entry-next, no-entry-left}
-use Rattle.hold.specs.Hold.{restored, restore, put-back-of}
-use Rattle.lists.specs.Parts.{part-take}
+use Rattle.lists.specs.Maps.{take-map}
+use Rattle.layout.specs.Layout.{file-offset, store-size}
+use Rattle.entries.specs.Entries.{entries}
+use Rattle.hold.specs.Hold.{restore}
+use Rattle.hold.specs.Tables.{number, store-end, restored-short}
 use Rattle.hold.proofs.restore.Statement.{statement}
 use Rattle.hold.proofs.restore.Tie as tie
 
--- one entry of those that are left
-turn : (d : Definition) (w u i : ℕ) (e : Entry) (es : List Entry) (images store : List ℕ)
-    → restored d w u (e ∷ es) (drop (i * w) images) store ≡ restored d w u es (drop ((i + 1) * w) images) (put-back-of d u e (take w (drop (i * w) images)) store)
-turn d w u i e es images store =
-    let k : i * w + w ≡ (i + 1) * w = omega arith in
-    ap (λ (t : List ℕ). restored d w u es t (put-back-of d u e (take w (drop (i * w) images)) store)) (drop-drop w (i * w) images ∙ ap (λ (n : ℕ). drop n images) k)
+abbrev entry : tie.After-file-starts → tie.Start
+entry c = c .before .before .before .before .before .before .before
 
-abbrev Inv-loop : tie.InvT-loop
-Inv-loop d width user queue images count store₀ n i₀ store i = (i ≤ n) × (length store ≡ length store₀) × (restored d width user (drop i (entries queue count)) (drop (i * width) images) store ≡ restored d width user (entries queue count) images store₀)
+-- every entry has its image
+fits : (c : tie.After-file-starts) → leb (entry c .args .count * entry c .args .width) (length (entry c .args .images .now)) ≡ true
+fits c = sym (c .before .before .before .blocks-fit .ensures) ∙ not-false _ (c .before .before .if1 .left)
 
-abbrev μ-loop : tie.MeasureT-loop
-μ-loop d width user queue images count store₀ n i₀ store i = n - i
+-- behind the last start the store ends
+end : (c : tie.After-file-starts) → getD (c .file-starts .result) (c .before .file-count .result) 0 ≡ store-size (entry c .args .d)
+end c = c .file-starts .ensures (c .before .file-count .result) (omega (arith, c .before .file-count .ensures)) ∙ ap (file-offset (entry c .args .d)) (c .before .file-count .ensures) ∙ store-end (entry c .args .d)
 
-blocks-fit-requires : tie.Need-blocks-fit-requires Inv-loop μ-loop
+blocks-fit-requires : tie.Need-blocks-fit-requires
 blocks-fit-requires c κs = search needs
 
-returns : tie.Need-returns Inv-loop μ-loop
+returns : tie.Need-returns
 unfolding restore
 returns c =
-    let no = sym (c .before .blocks-fit .ensures) ∙ not-true _ (c .if1 .taken) in
-    rw no
+    let short = sym (c .before .blocks-fit .ensures) ∙ not-true _ (c .if1 .taken) in
+    rw short
 
-least-requires : tie.Need-least-requires Inv-loop μ-loop
-least-requires c κs = search needs
+file-count-requires : tie.Need-file-count-requires
+file-count-requires c κs = search needs
 
-loop-holds : tie.Need-loop-holds Inv-loop μ-loop
-loop-holds c =
-    let a = c .before .before .before .before .before .before .args in
-    let z : 0 * a .width ≡ 0 = zero-mul (a .width) in
-    (omega arith, refl, rw z)
+file-starts-requires : tie.Need-file-starts-requires
+file-starts-requires c κs = search needs
 
--- the block of the entry ends within the images
-room : (c : tie.In-loop Inv-loop μ-loop) → c .before .loop .i * c .before .before .before .before .before .before .before .before .args .width + c .before .before .before .before .before .before .before .before .args .width ≤ length (c .before .before .before .before .before .before .before .before .args .images .now)
-room c =
-    let l = c .before in
-    let a = l .before .before .before .before .before .before .before .args in
-    let fits = leb-true (a .count * a .width) (length (a .images .now)) (sym (l .before .before .before .blocks-fit .ensures) ∙ not-false _ (l .before .before .if1 .left)) in
-    let m : l .loop .i + 1 ≤ a .count = omega (arith, c .loop-test .taken) in
-    omega (arith, fits, mul-le-mul-right (a .width) m)
+mul-if2 : tie.Need-mul-if2
+mul-if2 c = search needs
 
-mul-start : tie.Need-mul-start Inv-loop μ-loop
-mul-start c = omega (arith, room c)
+array-read-if2 : tie.Need-array-read-if2
+array-read-if2 c = search needs
 
-mul-put-back-of : tie.Need-mul-put-back-of Inv-loop μ-loop
-mul-put-back-of c = omega arith
-
-shared-slice-read-put-back-of : tie.Need-shared-slice-read-put-back-of Inv-loop μ-loop
-shared-slice-read-put-back-of c = omega arith
-
-add-put-back-of : tie.Need-add-put-back-of Inv-loop μ-loop
-add-put-back-of c = omega (arith, room (c .before))
-
-sub-put-back-of : tie.Need-sub-put-back-of Inv-loop μ-loop
-sub-put-back-of c = search needs
-
-part-put-back-of-start : tie.Need-part-put-back-of-start Inv-loop μ-loop
-part-put-back-of-start c = search needs
-
-part-put-back-of-end : tie.Need-part-put-back-of-end Inv-loop μ-loop
-part-put-back-of-end c = omega (arith, room (c .before))
-
-put-back-of-requires : tie.Need-put-back-of-requires Inv-loop μ-loop
-put-back-of-requires c κs = search needs
-
-add-i : tie.Need-add-i Inv-loop μ-loop
-add-i c = omega arith
-
-loop-less : tie.Need-loop-less Inv-loop μ-loop
-loop-less c = omega arith
-
-loop-again : tie.Need-loop-again Inv-loop μ-loop
-loop-again c =
-    let r = c .before .before in
-    let l = r .before .before .before .before .before in
-    let a = l .before .before .before .before .before .before .before .args in
-    let i = l .loop .i in
-    let e = unpack-of (getD (a .queue .now) i 0) in
-    let rest = drop (i + 1) (entries (a .queue .now) (a .count)) in
-    let next = entry-next (a .queue .now) (a .count) i (omega arith) in
-    let one = turn (a .d) (a .width) (a .user) i e rest (a .images .now) (l .loop .store) in
-    let now : r .put-back-of .last .1 .1 .1 .1 .0 ≡ put-back-of (a .d) (a .user) e (take (a .width) (drop (i * a .width) (a .images .now))) (l .loop .store) = rw (part-take (i * a .width) (a .width) (a .images .now)) at (r .put-back-of .ensures) in
-    (omega arith, omega (arith, r .put-back-of .kept .1 .1 .1 .1 .0, l .loop .inv .1), rw now (sym one ∙ rw next at (l .loop .inv .2)))
-
-same-length : tie.Need-same-length Inv-loop μ-loop
-same-length c = c .before .loop .inv .1
-
-returns-2 : tie.Need-returns-2 Inv-loop μ-loop
+returns-2 : tie.Need-returns-2
 unfolding restore
 returns-2 c =
-    let l = c .before in
-    let a = l .before .before .before .before .before .before .before .args in
-    let yes = sym (l .before .before .before .blocks-fit .ensures) ∙ not-false _ (l .before .before .if1 .left) in
-    let none = no-entry-left (a .queue .now) (a .count) (l .loop .i) (omega arith) in
-    rw yes (rw none at (l .loop .inv .2))
+    let a = entry (c .before) .args in
+    rw (fits (c .before)) (sym (restored-short (a .d) (a .width) (a .user) (entries (a .queue .now) (a .count)) (a .images .now) (a .store .now) (omega (arith, end (c .before), c .if2 .taken))))
+
+file-numbers-requires : tie.Need-file-numbers-requires
+file-numbers-requires c κs = search needs
+
+array-share-prefix-numbers : tie.Need-array-share-prefix-numbers
+array-share-prefix-numbers c = search needs
+
+slice-aggregate-put-back-all : tie.Need-slice-aggregate-put-back-all
+slice-aggregate-put-back-all c =
+    let many : length (c .before .file-numbers .result) ≡ 16 = search needs in
+    sym (length-take-le (c .before .before .before .before .file-count .result) (c .before .file-numbers .result) (omega (arith, many, c .before .before .before .before .file-count .ensures)))
+
+slice-aggregate-put-back-all-2 : tie.Need-slice-aggregate-put-back-all-2
+slice-aggregate-put-back-all-2 c = search needs
+
+put-back-all-requires : tie.Need-put-back-all-requires
+put-back-all-requires c κs =
+    let t = c .before .before .before .before .before in
+    let d = entry t .args .d in
+    let numbers = ap (take (t .before .file-count .result)) (c .before .before .before .file-numbers .ensures) ∙ take-map number (t .before .file-count .result) (d .files) ∙ ap (λ n. map number (take n (d .files))) (t .before .file-count .ensures) in
+    (numbers, (search needs, (t .file-starts .ensures, (leb-true _ _ (fits t), omega (arith, end t, c .before .before .before .before .if2 .left)))))
+
+same-length : tie.Need-same-length
+same-length c = search needs
+
+returns-3 : tie.Need-returns-3
+unfolding restore
+returns-3 c = rw (fits (c .before .before .before .before .before .before .before .before)) (c .before .before .put-back-all .ensures)
 
 pub restore-spec : {M : Type 1} → statement M
 restore-spec =
     tie.close
     (tie.spec
-    Inv-loop
-    μ-loop
     blocks-fit-requires
     returns
-    least-requires
-    loop-holds
-    mul-start
-    mul-put-back-of
-    shared-slice-read-put-back-of
-    add-put-back-of
-    sub-put-back-of
-    part-put-back-of-start
-    part-put-back-of-end
-    put-back-of-requires
-    add-i
-    loop-less
-    loop-again
+    file-count-requires
+    file-starts-requires
+    mul-if2
+    array-read-if2
+    returns-2
+    file-numbers-requires
+    array-share-prefix-numbers
+    slice-aggregate-put-back-all
+    slice-aggregate-put-back-all-2
+    put-back-all-requires
     same-length
-    returns-2)
+    returns-3)
