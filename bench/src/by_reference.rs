@@ -19,9 +19,7 @@ pub fn refusal(state: &State, capacity: usize, buffers: &Buffers, command: [u8; 
 }
 
 fn table_valid(state: &State) -> bool {
-    let known = |field: &Field| field.format <= 3 && field.option <= 2;
-    state.files.iter().all(|file| file.fields.iter().all(known))
-        && (1..=FILES).contains(&usize::from(state.count))
+    (1..=FILES).contains(&usize::from(state.count))
         && files(state).iter().all(file_valid)
         && no_double(files(state), |file| file.number)
 }
@@ -45,9 +43,11 @@ fn file_valid(file: &File) -> bool {
 
 fn field_valid(field: &Field) -> bool {
     const GREATEST: [u8; 4] = [253, 126, 29, 15];
+    let greatest = GREATEST.get(usize::from(field.format));
     field.first.is_ascii_uppercase()
         && (field.second.is_ascii_uppercase() || field.second.is_ascii_digit())
-        && (1..=GREATEST[usize::from(field.format)]).contains(&field.length)
+        && greatest.is_some_and(|greatest| (1..=*greatest).contains(&field.length))
+        && field.option <= 2
 }
 
 fn no_double<T, K: PartialEq>(items: &[T], key: impl Fn(&T) -> K) -> bool {

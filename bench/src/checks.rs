@@ -81,14 +81,16 @@ fn by_reference(nucleus: &Nucleus) -> Runner<'_> {
 
 type Damage = fn(&mut State, &mut Buffers);
 
-/// What makes a state one that is not well made, after one that changes nothing.
-const DAMAGES: [Damage; 14] = [
+/// What makes a state one that is not well made; the first changes nothing, and a place behind a count means nothing.
+const DAMAGES: [Damage; 16] = [
     |_, _| {},
     |state, _| state.count = 17,
     |state, _| state.files[0].number = 17,
     |state, _| state.files[0].max_isn = 4096,
     |state, _| state.files[0].fields[0].first = b'a',
     |state, _| state.files[0].fields[1] = state.files[0].fields[0],
+    |state, _| state.files[0].fields[0].option = 3,
+    |state, _| state.files[0].fields[0].format = 4,
     |state, _| state.files[15].fields[15].option = 3,
     |state, _| {
         state.users[31].transaction = raw::Transaction {
