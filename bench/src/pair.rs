@@ -1,10 +1,9 @@
 //! A nucleus in both implementations. What is measured is first run here, and nothing may differ.
 
 use crate::steps::{household, Step};
-use second::hold;
+use beside::twin;
 use second::machine::Machine;
 use second::state::Answer;
-use towungbe::raw::Entry;
 use towungbe::{Command, Nucleus};
 
 #[derive(Clone)]
@@ -79,20 +78,10 @@ impl Pair {
     pub fn compare(&self) {
         let same_store = self.nucleus.buffers().store == self.machine.store;
         assert!(same_store, "the stores differ");
-        let expected = self.machine.entries().iter().map(entry);
+        let expected = self.machine.entries().iter().map(twin::entry);
         assert!(
             self.nucleus.entries().iter().copied().eq(expected),
             "the entries differ"
         );
-    }
-}
-
-fn entry(entry: &hold::Entry) -> Entry {
-    Entry {
-        user: entry.user,
-        file: entry.file,
-        isn: entry.isn,
-        changed: entry.changed,
-        existed: entry.existed,
     }
 }

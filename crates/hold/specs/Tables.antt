@@ -22,8 +22,8 @@ use Rattle.records.specs.declared.Found.the-variants.{At, Nowhere}
 use Rattle.entries.specs.declared.Entry.{Entry}
 use Rattle.hold.specs.Hold.{put-back, put-back-at, put-back-of, undone, restored}
 
-abbrev pub number : File → ℕ
-number f = f .number
+abbrev pub file-number : File → ℕ
+file-number f = f .number
 
 -- the place of the first number from here on that is the one sought
 abbrev pub seek-number : ℕ → List ℕ → ℕ → Found
@@ -35,17 +35,17 @@ abbrev pub undone-at : List ℕ → ℕ → Entry → Found
 undone-at numbers user e = cond (undone user e) (seek-number (e .file) numbers 0) Nowhere
 
 -- ---- by their numbers files are found where `seek` finds them
-seek-numbers : (n : ℕ) (fs : List File) (i : ℕ) → seek-number n (map number fs) i ≡ seek n fs i
+seek-numbers : (n : ℕ) (fs : List File) (i : ℕ) → seek-number n (map file-number fs) i ≡ seek n fs i
 seek-numbers n [] i = refl
 seek-numbers n (f ∷ fs) i = ap (cond (eqb (f .number) n) (At i)) (seek-numbers n fs (i + 1))
 
 module _ (d : Definition) where
-  undone-place : (user : ℕ) (e : Entry) → undone-at (map number (files-of d)) user e ≡ cond (undone user e) (place d (e .file)) Nowhere
+  undone-place : (user : ℕ) (e : Entry) → undone-at (map file-number (files-of d)) user e ≡ cond (undone user e) (place d (e .file)) Nowhere
   unfolding place
   undone-place user e = ap (λ t. cond (undone user e) t Nowhere) (seek-numbers (e .file) (files-of d) 0)
 
   -- where a file is found it is one in use
-  pub undone-found : DefinitionShape d → (user : ℕ) (e : Entry) (i : ℕ) → undone-at (map number (files-of d)) user e ≡ At i → i < file-count d
+  pub undone-found : DefinitionShape d → (user : ℕ) (e : Entry) (i : ℕ) → undone-at (map file-number (files-of d)) user e ≡ At i → i < file-count d
   undone-found s user e i found = go (outcome (undone user e)) (sym (undone-place user e) ∙ found)
     where
       go : Outcome (undone user e) → cond (undone user e) (place d (e .file)) Nowhere ≡ At i → i < file-count d
@@ -54,7 +54,7 @@ module _ (d : Definition) where
 
   -- what an entry puts back, in a store that is long enough
   pub put-back-undone : (user : ℕ) (e : Entry) (image store : List ℕ) → store-size d ≤ length store
-      → put-back-of d user e image store ≡ put-back-at d (undone-at (map number (files-of d)) user e) e image store
+      → put-back-of d user e image store ≡ put-back-at d (undone-at (map file-number (files-of d)) user e) e image store
   unfolding put-back
   put-back-undone user e image store room =
       rw (undone-place user e, le-leb (store-size d) (length store) room) (go (outcome (undone user e)))

@@ -8,7 +8,7 @@ ghost use Rattle.definition.specs.Table.{file-count, files-of};
 ghost use Rattle.layout.specs.Layout.{file-offset, store-size};
 ghost use Rattle.entries.specs.Entries.{entries};
 ghost use Rattle.hold.specs.Hold.{put-back-in, restored, restore};
-ghost use Rattle.hold.specs.Tables.{number, seek-number, undone-at};
+ghost use Rattle.hold.specs.Tables.{file-number, seek-number, undone-at};
 use definition::Definition;
 use definition::File;
 use definition::MAX_FILES;
@@ -20,7 +20,7 @@ const STARTS: usize = MAX_FILES + 1;
 
 // The number of the file at each place, used or not.
 fn file_numbers(d: Definition) -> [u8; MAX_FILES]
-    ensures { λ r. ⌜ r ≡ map number (d .files) ⌝ }
+    ensures { λ r. ⌜ r ≡ map file-number (d .files) ⌝ }
 {
     let mut numbers = [0u8; MAX_FILES];
     let mut i = 0;
@@ -108,7 +108,7 @@ fn put_back_all(
     count: usize,
     store: &mut [u8],
 )
-    requires { ⌜ now numbers ≡ map number (files-of d) ⌝ }
+    requires { ⌜ now numbers ≡ map file-number (files-of d) ⌝ }
     requires { ⌜ length (now starts) ≡ 17 ⌝ }
     requires { ⌜ ((k : ℕ) → k ≤ file-count d → getD (now starts) k 0 ≡ file-offset d k) ⌝ }
     requires { ⌜ count * width ≤ length (now images) ⌝ }

@@ -1,13 +1,17 @@
 -- What is kept of a state is the state: frozen and thawed again it is what it was, where the unused places of its table are empty, and so is one whose
 -- table did not change.
 -- Assumes nothing.
+use Prim.Native.Nat.{ℕ}
 use mathlib.Core.Path.{_≡_, sym}
 use mathlib.Core.Bool.{false}
-use mathlib.Core.List.{map}
+use mathlib.Core.List.{List, map}
+use Rattle.lists.specs.Tests.{cond}
+use Rattle.lists.specs.Folds.{all}
 use Rattle.definition.specs.Table.{no-definition}
 use Rattle.definition.specs.declared.Definition.{Definition}
-use Rattle.kept_tables.specs.KeptTables.{files-known, frozen-file}
-use Rattle.kept_tables.specs.Laws.{Tidy, frozen-known, files-back}
+use Rattle.kept_tables.specs.KeptTables.{kept-files-of, fields-known, files-known, frozen-file}
+use Rattle.kept_tables.specs.Laws.{Tidy, frozen-known, files-back, files-unseen}
+use Rattle.kept_tables.specs.declared.KeptFile.{KeptFile}
 use Rattle.nucleus.specs.declared.State.{State}
 use Rattle.kept_states.specs.KeptStates.{thawed-table, thawed, frozen, with-kept-table}
 use Rattle.kept_states.specs.declared.KeptState.{KeptState}
@@ -28,3 +32,8 @@ thawed-with k s e = λ i. record { definition = sym e i; clock = s .clock; users
 pub thawed-none : (k : KeptState) → files-known (k .count) (k .files) ≡ false → thawed k .definition ≡ no-definition
 unfolding thawed thawed-table
 thawed-none k e = rw e
+
+-- what stands behind the count of files is not looked at; behind a file's count of fields neither (`fields-unseen` of kept_tables)
+pub table-unseen : (count : ℕ) (files other : List KeptFile) → kept-files-of count files ≡ kept-files-of count other → thawed-table count files ≡ thawed-table count other
+unfolding thawed-table files-known
+table-unseen count files other e = λ i. cond (all fields-known (e i)) (record { count = count; files = files-unseen count files other e i }) no-definition

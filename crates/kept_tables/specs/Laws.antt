@@ -1,18 +1,19 @@
--- What is kept of a table is the table: frozen and thawed again it is what it was, where its unused places are empty, and every byte is then known.
--- And the loops over the first elements that test each, or write an image of it: one turn, and their ends.
+-- What is kept of a table is the table: frozen and thawed again it is what it was, where its unused places are empty, and every byte is then known; what
+-- stands behind a count makes no difference.
+-- And the loop over the first elements that writes an image of each: one turn, and its end.
 -- Assumes nothing.
-use Prim.Native.Nat.{ℕ, zero, suc, _+_, _≤_, _<_}
+use Prim.Native.Nat.{ℕ, zero, suc, _+_, _≤_, _<_, min}
 use native.Mathlib.Omega.{arith}
 use mathlib.Core.Path.{_≡_, refl, ap, sym, _∙_}
-use mathlib.Core.Bool.{Bool, true, false}
+use mathlib.Core.Bool.{Bool, true}
 use mathlib.Core.List.{List, [], _∷_, _++_, map}
 use lib.Dec.{ltb}
 use lib.ListN.{length, take, drop, getD, set, length-map, take-append-drop, List·getD-map}
 use Rattle.lists.specs.Folds.{all, Each, each-index}
 use Rattle.lists.specs.Every.{each-with}
 use Rattle.lists.specs.Maps.{take-map}
-use Rattle.lists.specs.Rest.{rest-more, rest-none, write-more, write-all}
-use Rattle.definition.specs.Table.{no-field, no-file, no-definition, field-count, fields-of, file-count, files-of}
+use Rattle.lists.specs.Rest.{write-more, write-all}
+use Rattle.definition.specs.Table.{max-fields, no-field, no-file, no-definition, field-count, fields-of, file-count, files-of}
 use Rattle.definition.specs.declared.Format.{Format}
 use Rattle.definition.specs.declared.Format.the-variants.{Alphanumeric, Binary, Unpacked, Packed}
 use Rattle.definition.specs.declared.FieldOption.{FieldOption}
@@ -20,7 +21,9 @@ use Rattle.definition.specs.declared.FieldOption.the-variants.{Plain, Descripto
 use Rattle.definition.specs.declared.Field.{Field}
 use Rattle.definition.specs.declared.File.{File}
 use Rattle.definition.specs.declared.Definition.{Definition}
-use Rattle.kept_tables.specs.KeptTables.{format-number, option-number, format-numbered, option-numbered, kept-file-count, bytes-known, fields-known, files-known, mapped, thawed-field, thawed-file, thawed-files, frozen-field, frozen-file}
+use Rattle.kept_tables.specs.KeptTables.{format-number, option-number, format-numbered, option-numbered, kept-file-count, kept-files-of, bytes-known, fields-known, files-known, mapped, thawed-field, thawed-file, thawed-files, frozen-field, frozen-file}
+use Rattle.kept_tables.specs.declared.KeptField.{KeptField}
+use Rattle.kept_tables.specs.declared.KeptFile.{KeptFile}
 
 -- ---- frozen and thawed again
 format-back : (f : Format) → format-numbered (format-number f) ≡ f
@@ -71,6 +74,20 @@ files-back d t =
     let each = each-with TidyFile (λ f. thawed-file (frozen-file f) ≡ f) file-back (files-of d) (t .each-used) in
     mapped-back frozen-file thawed-file (file-count d) (d .files) (no-definition .files) each (t .unused)
 
+-- ---- what stands behind a count is not looked at
+mapped-unseen : {A B : Type 0} (f : A → B) (l other : List A) (rest : List B) (n : ℕ) → take n l ≡ take n other → mapped f l rest n ≡ mapped f other rest n
+mapped-unseen f l other rest n e = ap (λ t. t ++ drop n rest) (take-map f n l ∙ ap (map f) e ∙ sym (take-map f n other))
+
+pub fields-unseen : (number count highest : ℕ) (fields other : List KeptField) → take (min count max-fields) fields ≡ take (min count max-fields) other
+    → thawed-file (record { number = number; count = count; «max_isn» = highest; fields = fields }) ≡ thawed-file (record { number = number; count = count; «max_isn» = highest; fields = other })
+unfolding thawed-file
+fields-unseen number count highest fields other e =
+    λ i. record { number = number; «max_isn» = highest; count = count; fields = mapped-unseen thawed-field fields other (no-file .fields) (min count max-fields) e i }
+
+pub files-unseen : (count : ℕ) (files other : List KeptFile) → kept-files-of count files ≡ kept-files-of count other → thawed-files count files ≡ thawed-files count other
+unfolding thawed-files
+files-unseen count files other e = mapped-unseen thawed-file files other (no-definition .files) (kept-file-count count) e
+
 -- ---- every byte of what was frozen is known
 format-known : (f : Format) → ltb (format-number f) 4 ≡ true
 format-known Alphanumeric = refl
@@ -99,17 +116,6 @@ file-known f = map-known bytes-known frozen-field field-known (field-count f) (f
 pub frozen-known : (count : ℕ) (l : List File) → files-known count (map frozen-file l) ≡ true
 unfolding files-known
 frozen-known count l = map-known fields-known frozen-file file-known (kept-file-count count) l
-
--- ---- a loop that tests the first n elements: one turn, and its two ends
-module _ {A : Type 0} (p : A → Bool) (n : ℕ) (l : List A) (i : ℕ) where
-  pub test-more : (d : A) → i < n → n ≤ length l → p (getD l i d) ≡ true → all p (drop i (take n l)) ≡ all p (drop (i + 1) (take n l))
-  test-more d h k t = rw (rest-more n l i d h k, t)
-
-  pub test-fails : (d : A) → i < n → n ≤ length l → p (getD l i d) ≡ false → all p (drop i (take n l)) ≡ false
-  test-fails d h k t = rw (rest-more n l i d h k, t)
-
-  pub test-passed : n ≤ i → all p (drop i (take n l)) ≡ true
-  test-passed h = rw (rest-none n l i h)
 
 -- ---- a loop that writes the image of each element
 module _ {A B : Type 0} (f : A → B) (l : List A) (old : List B) (i : ℕ) where

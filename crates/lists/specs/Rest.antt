@@ -81,3 +81,14 @@ module _ {A : Type 0} (p : A → Bool) (l : List A) (i : ℕ) (d : A) where
 
   pub all-passed : length l ≤ i → all p (drop i l) ≡ true
   all-passed h = rw (drop-of-length-le l h)
+
+-- the same of a loop over the first n elements
+module _ {A : Type 0} (p : A → Bool) (n : ℕ) (l : List A) (i : ℕ) where
+  pub first-more : (d : A) → i < n → n ≤ length l → p (getD l i d) ≡ true → all p (drop i (take n l)) ≡ all p (drop (i + 1) (take n l))
+  first-more d h k t = rw (rest-more n l i d h k, t)
+
+  pub first-fails : (d : A) → i < n → n ≤ length l → p (getD l i d) ≡ false → all p (drop i (take n l)) ≡ false
+  first-fails d h k t = rw (rest-more n l i d h k, t)
+
+  pub first-passed : n ≤ i → all p (drop i (take n l)) ≡ true
+  first-passed h = rw (rest-none n l i h)

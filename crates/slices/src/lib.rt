@@ -6,7 +6,7 @@ ghost use lib.Dec.{leb};
 ghost use Rattle.lists.specs.Tests.{eqbs};
 ghost use Rattle.lists.specs.Pieces.{piece};
 ghost use Rattle.slices.specs.Slices.{copied};
-ghost use Rattle.slices.specs.Eights.{number};
+ghost use Rattle.slices.specs.Eights.{as-number};
 
 pub fn least(a: usize, b: usize) -> usize
     ensures { λ r. ⌜ r ≡ min a b ⌝ }
@@ -36,7 +36,7 @@ fn wide(x: u8) -> u64
 // Four bytes from a place on as one number, the first the lowest.
 fn four(a: &[u8], i: usize) -> u64
     requires { ⌜ i + 4 ≤ length (now a) ⌝ }
-    ensures { λ r. ⌜ r ≡ number (piece i 4 (now (a .entry))) ⌝ }
+    ensures { λ r. ⌜ r ≡ as-number (piece i 4 (now (a .entry))) ⌝ }
     ensures { λ r. ⌜ r < 4294967296 ⌝ }
 {
     wide(a[i]) + wide(a[i + 1]) * 256 + wide(a[i + 2]) * 65536 + wide(a[i + 3]) * 16777216
@@ -45,7 +45,7 @@ fn four(a: &[u8], i: usize) -> u64
 // Eight bytes so: for the machine one load.
 fn eight(a: &[u8], i: usize) -> u64
     requires { ⌜ i + 8 ≤ length (now a) ⌝ }
-    ensures { λ r. ⌜ r ≡ number (piece i 8 (now (a .entry))) ⌝ }
+    ensures { λ r. ⌜ r ≡ as-number (piece i 8 (now (a .entry))) ⌝ }
 {
     four(a, i) + four(a, i + 4) * 4294967296
 }

@@ -24,12 +24,12 @@ use Rattle.entries.specs.Entries.{unpack-of, entries}
 use Rattle.entries.specs.Laws.{entry-next, no-entry-left}
 use Rattle.entries.specs.declared.Entry.{Entry}
 use Rattle.hold.specs.Hold.{put-back-in, put-back-at, put-back-of, restored}
-use Rattle.hold.specs.Tables.{number, undone-at, put-back-undone, undone-found}
+use Rattle.hold.specs.Tables.{file-number, undone-at, put-back-undone, undone-found}
 use Rattle.hold.proofs.put_back_all.Statement.{statement}
 use Rattle.hold.proofs.put_back_all.Tie as tie
 
 -- one entry of those that are left
-turn : (d : Definition) (w u i : ℕ) (words : List ℕ) (count : ℕ) (images store : List ℕ) (e : Entry) (found : Found) → store-size d ≤ length store → i < min count (length words) → e ≡ unpack-of (getD words i 0) → found ≡ undone-at (map number (files-of d)) u e
+turn : (d : Definition) (w u i : ℕ) (words : List ℕ) (count : ℕ) (images store : List ℕ) (e : Entry) (found : Found) → store-size d ≤ length store → i < min count (length words) → e ≡ unpack-of (getD words i 0) → found ≡ undone-at (map file-number (files-of d)) u e
     → restored d w u (drop (i + 1) (entries words count)) (drop ((i + 1) * w) images) (put-back-at d found e (take w (drop (i * w) images)) store) ≡ restored d w u (drop i (entries words count)) (drop (i * w) images) store
 turn d w u i words count images store e found room more here there =
     let next : i * w + w ≡ (i + 1) * w = omega arith in
@@ -68,7 +68,7 @@ room c =
 abbrev turn-of : tie.After-undone-at Inv-loop μ-loop → tie.At-loop Inv-loop μ-loop
 turn-of t = t .before .before .before .before
 
-sought : (t : tie.After-undone-at Inv-loop μ-loop) → t .undone-at .result ≡ undone-at (map number (files-of (entry (turn-of t) .args .t1))) (entry (turn-of t) .args .user) (t .before .unpack .result)
+sought : (t : tie.After-undone-at Inv-loop μ-loop) → t .undone-at .result ≡ undone-at (map file-number (files-of (entry (turn-of t) .args .t1))) (entry (turn-of t) .args .user) (t .before .unpack .result)
 sought t = rw (← (entry (turn-of t) .pre .0)) (t .undone-at .ensures)
 
 inside : (c : tie.After-known-told Inv-loop μ-loop) → c .before .found .given .0 .0 < file-count (entry (turn-of (c .before .before .before)) .args .t1)

@@ -14,7 +14,7 @@ use Rattle.lists.specs.Maps.{take-map}
 use Rattle.layout.specs.Layout.{file-offset, store-size}
 use Rattle.entries.specs.Entries.{entries}
 use Rattle.hold.specs.Hold.{restore}
-use Rattle.hold.specs.Tables.{number, store-end, restored-short}
+use Rattle.hold.specs.Tables.{file-number, store-end, restored-short}
 use Rattle.hold.proofs.restore.Statement.{statement}
 use Rattle.hold.proofs.restore.Tie as tie
 
@@ -74,7 +74,7 @@ put-back-all-requires : tie.Need-put-back-all-requires
 put-back-all-requires c κs =
     let t = c .before .before .before .before .before in
     let d = entry t .args .d in
-    let numbers = ap (take (t .before .file-count .result)) (c .before .before .before .file-numbers .ensures) ∙ take-map number (t .before .file-count .result) (d .files) ∙ ap (λ n. map number (take n (d .files))) (t .before .file-count .ensures) in
+    let numbers = ap (take (t .before .file-count .result)) (c .before .before .before .file-numbers .ensures) ∙ take-map file-number (t .before .file-count .result) (d .files) ∙ ap (λ n. map file-number (take n (d .files))) (t .before .file-count .ensures) in
     (numbers, (search needs, (t .file-starts .ensures, (leb-true _ _ (fits t), omega (arith, end t, c .before .before .before .before .if2 .left)))))
 
 same-length : tie.Need-same-length

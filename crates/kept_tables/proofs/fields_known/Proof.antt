@@ -7,8 +7,8 @@ use lib.ListN.{length, drop}
 use borrow.Author.Tests.{not-true, not-false}
 use borrow.Author.Needs.{needs}
 use Rattle.lists.specs.Folds.{all}
+use Rattle.lists.specs.Rest.{first-more, first-fails, first-passed}
 use Rattle.kept_tables.specs.KeptTables.{kept-field-count, kept-fields-of, bytes-known, fields-known}
-use Rattle.kept_tables.specs.Laws.{test-more, test-fails, test-passed}
 use Rattle.kept_tables.proofs.Known.{places}
 use Rattle.kept_tables.proofs.fields_known.Statement.{statement}
 use Rattle.kept_tables.proofs.fields_known.Tie as tie
@@ -42,7 +42,7 @@ returns c =
     let k = s .args .t1 in
     let no = sym (c .before .bytes-known .ensures) ∙ not-true _ (c .if1 .taken) in
     let room : kept-field-count k ≤ length (k .fields) = omega (arith, places k _ (s .good .0)) in
-    sym (l .loop .inv .2 ∙ test-fails bytes-known (kept-field-count k) (k .fields) (l .loop .i) _ (omega (arith, l .loop .inv .0)) room no)
+    sym (l .loop .inv .2 ∙ first-fails bytes-known (kept-field-count k) (k .fields) (l .loop .i) _ (omega (arith, l .loop .inv .0)) room no)
 
 add-i : tie.Need-add-i Inv-loop μ-loop
 add-i c = omega arith
@@ -57,7 +57,7 @@ loop-again c =
     let k = s .args .t1 in
     let yes = sym (c .before .bytes-known .ensures) ∙ not-false _ (c .if1 .left) in
     let room : kept-field-count k ≤ length (k .fields) = omega (arith, places k _ (s .good .0)) in
-    let turn = test-more bytes-known (kept-field-count k) (k .fields) (l .loop .i) _ (omega (arith, l .loop .inv .0)) room yes in
+    let turn = first-more bytes-known (kept-field-count k) (k .fields) (l .loop .i) _ (omega (arith, l .loop .inv .0)) room yes in
     (l .loop .inv .0, omega arith, l .loop .inv .2 ∙ turn)
 
 returns-2 : tie.Need-returns-2 Inv-loop μ-loop
@@ -65,7 +65,7 @@ unfolding fields-known
 returns-2 c =
     let l = c .before in
     let k = l .before .before .args .t1 in
-    sym (l .loop .inv .2 ∙ test-passed bytes-known (kept-field-count k) (k .fields) (l .loop .i) (omega (arith, l .loop .inv .0)))
+    sym (l .loop .inv .2 ∙ first-passed bytes-known (kept-field-count k) (k .fields) (l .loop .i) (omega (arith, l .loop .inv .0)))
 
 pub fields-known-spec : {M : Type 1} → statement M
 fields-known-spec =

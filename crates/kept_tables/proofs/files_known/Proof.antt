@@ -7,8 +7,8 @@ use lib.ListN.{length, drop}
 use borrow.Author.Tests.{not-true, not-false}
 use borrow.Author.Needs.{needs}
 use Rattle.lists.specs.Folds.{all}
+use Rattle.lists.specs.Rest.{first-more, first-fails, first-passed}
 use Rattle.kept_tables.specs.KeptTables.{kept-file-count, kept-files-of, fields-known, files-known}
-use Rattle.kept_tables.specs.Laws.{test-more, test-fails, test-passed}
 use Rattle.kept_tables.proofs.files_known.Statement.{statement}
 use Rattle.kept_tables.proofs.files_known.Tie as tie
 
@@ -42,7 +42,7 @@ returns c =
     let files = s .args .t2 in
     let no = sym (c .before .fields-known .ensures) ∙ not-true _ (c .if1 .taken) in
     let room : kept-file-count count ≤ length files = search needs in
-    sym (l .loop .inv .2 ∙ test-fails fields-known (kept-file-count count) files (l .loop .i) _ (omega (arith, l .loop .inv .0)) room no)
+    sym (l .loop .inv .2 ∙ first-fails fields-known (kept-file-count count) files (l .loop .i) _ (omega (arith, l .loop .inv .0)) room no)
 
 add-i : tie.Need-add-i Inv-loop μ-loop
 add-i c = omega arith
@@ -58,7 +58,7 @@ loop-again c =
     let files = s .args .t2 in
     let yes = sym (c .before .fields-known .ensures) ∙ not-false _ (c .if1 .left) in
     let room : kept-file-count count ≤ length files = search needs in
-    let turn = test-more fields-known (kept-file-count count) files (l .loop .i) _ (omega (arith, l .loop .inv .0)) room yes in
+    let turn = first-more fields-known (kept-file-count count) files (l .loop .i) _ (omega (arith, l .loop .inv .0)) room yes in
     (l .loop .inv .0, omega arith, l .loop .inv .2 ∙ turn)
 
 returns-2 : tie.Need-returns-2 Inv-loop μ-loop
@@ -67,7 +67,7 @@ returns-2 c =
     let l = c .before in
     let count = l .before .before .args .count in
     let files = l .before .before .args .t2 in
-    sym (l .loop .inv .2 ∙ test-passed fields-known (kept-file-count count) files (l .loop .i) (omega (arith, l .loop .inv .0)))
+    sym (l .loop .inv .2 ∙ first-passed fields-known (kept-file-count count) files (l .loop .i) (omega (arith, l .loop .inv .0)))
 
 pub files-known-spec : {M : Type 1} → statement M
 files-known-spec =

@@ -5,7 +5,7 @@ use mathlib.Core.Path.{_≡_, refl, sym, _∙_}
 use native.Mathlib.Omega.{arith}
 use lib.ListN.{length, take}
 use Rattle.lists.specs.Pieces.{piece}
-use Rattle.slices.specs.Eights.{number, Bytes, alike-more, alike-all, differ}
+use Rattle.slices.specs.Eights.{as-number, Bytes, alike-more, alike-all, differ}
 use Rattle.slices.proofs.same_eights.Statement.{statement}
 use Rattle.slices.proofs.same_eights.Tie as tie
 
@@ -34,7 +34,7 @@ returns : tie.Need-returns Inv-loop μ-loop
 returns c =
     let l = c .before .before .before .before in
     let a = l .before .before .before .args in
-    sym (differ (a .a .now) (a .b .now) (λ s. number (piece (l .loop .i) 8 s)) (λ e. c .if1 .taken (c .before .before .eight .ensures ∙ e ∙ sym (c .before .eight2 .ensures))))
+    sym (differ (a .a .now) (a .b .now) (λ s. as-number (piece (l .loop .i) 8 s)) (λ e. c .if1 .taken (c .before .before .eight .ensures ∙ e ∙ sym (c .before .eight2 .ensures))))
 
 add-i : tie.Need-add-i Inv-loop μ-loop
 add-i c = omega arith
