@@ -3,7 +3,7 @@
 
 #include "towungbe.h"
 
-/* What src/foreign.rs writes as numbers. */
+/* What src/foreign/sqlite.rs writes as numbers. */
 _Static_assert(SQLITE_OK == 0 && SQLITE_ROW == 100 && SQLITE_DONE == 101, "results of SQLite");
 _Static_assert((SQLITE_OPEN_READWRITE | SQLITE_OPEN_CREATE | SQLITE_OPEN_NOMUTEX) == 0x8006, "how SQLite opens");
 

@@ -6,11 +6,10 @@ use mathlib.Core.Path.{_≡_, sym}
 use mathlib.Core.Bool.{false}
 use mathlib.Core.List.{List, map}
 use Rattle.lists.specs.Tests.{cond}
-use Rattle.lists.specs.Folds.{all}
 use Rattle.definition.specs.Table.{no-definition}
 use Rattle.definition.specs.declared.Definition.{Definition}
-use Rattle.kept_tables.specs.KeptTables.{kept-files-of, fields-known, files-known, frozen-file}
-use Rattle.kept_tables.specs.Laws.{Tidy, frozen-known, files-back, files-unseen}
+use Rattle.kept_tables.specs.KeptTables.{kept-files-of, files-known, frozen-file}
+use Rattle.kept_tables.specs.Laws.{Tidy, frozen-known, files-back, seen, files-unseen, known-unseen}
 use Rattle.kept_tables.specs.declared.KeptFile.{KeptFile}
 use Rattle.nucleus.specs.declared.State.{State}
 use Rattle.kept_states.specs.KeptStates.{thawed-table, thawed, frozen, with-kept-table}
@@ -33,7 +32,7 @@ pub thawed-none : (k : KeptState) → files-known (k .count) (k .files) ≡ fals
 unfolding thawed thawed-table
 thawed-none k e = rw e
 
--- what stands behind the count of files is not looked at; behind a file's count of fields neither (`fields-unseen` of kept_tables)
-pub table-unseen : (count : ℕ) (files other : List KeptFile) → kept-files-of count files ≡ kept-files-of count other → thawed-table count files ≡ thawed-table count other
-unfolding thawed-table files-known
-table-unseen count files other e = λ i. cond (all fields-known (e i)) (record { count = count; files = files-unseen count files other e i }) no-definition
+-- what stands behind a count, of files or of a file's fields, is not looked at
+pub table-unseen : (count : ℕ) (files other : List KeptFile) → map seen (kept-files-of count files) ≡ map seen (kept-files-of count other) → thawed-table count files ≡ thawed-table count other
+unfolding thawed-table
+table-unseen count files other same = λ i. cond (known-unseen count files other same i) (record { count = count; files = files-unseen count files other same i }) no-definition

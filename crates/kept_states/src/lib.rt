@@ -49,7 +49,7 @@ pub struct Left {
 }
 
 // A table with a byte in use that numbers no format or option is none, so that every call on it answers 12.
-pub fn thawed_table(count: u8, files: [KeptFile; MAX_FILES]) -> Definition
+fn thawed_table(count: u8, files: [KeptFile; MAX_FILES]) -> Definition
     ensures { λ r. ⌜ r ≡ thawed-table count files ⌝ }
 {
     if !kept_tables::files_known(count, files) {

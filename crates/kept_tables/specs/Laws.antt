@@ -2,18 +2,19 @@
 -- stands behind a count makes no difference.
 -- And the loop over the first elements that writes an image of each: one turn, and its end.
 -- Assumes nothing.
-use Prim.Native.Nat.{ℕ, zero, suc, _+_, _≤_, _<_, min}
+use Prim.Native.Nat.{ℕ, zero, suc, _+_, _≤_, _<_}
 use native.Mathlib.Omega.{arith}
 use mathlib.Core.Path.{_≡_, refl, ap, sym, _∙_}
 use mathlib.Core.Bool.{Bool, true}
 use mathlib.Core.List.{List, [], _∷_, _++_, map}
 use lib.Dec.{ltb}
 use lib.ListN.{length, take, drop, getD, set, length-map, take-append-drop, List·getD-map}
+use lib.Seq.{take-take}
 use Rattle.lists.specs.Folds.{all, Each, each-index}
 use Rattle.lists.specs.Every.{each-with}
 use Rattle.lists.specs.Maps.{take-map}
 use Rattle.lists.specs.Rest.{write-more, write-all}
-use Rattle.definition.specs.Table.{max-fields, no-field, no-file, no-definition, field-count, fields-of, file-count, files-of}
+use Rattle.definition.specs.Table.{no-field, no-file, no-definition, field-count, fields-of, file-count, files-of}
 use Rattle.definition.specs.declared.Format.{Format}
 use Rattle.definition.specs.declared.Format.the-variants.{Alphanumeric, Binary, Unpacked, Packed}
 use Rattle.definition.specs.declared.FieldOption.{FieldOption}
@@ -21,8 +22,7 @@ use Rattle.definition.specs.declared.FieldOption.the-variants.{Plain, Descripto
 use Rattle.definition.specs.declared.Field.{Field}
 use Rattle.definition.specs.declared.File.{File}
 use Rattle.definition.specs.declared.Definition.{Definition}
-use Rattle.kept_tables.specs.KeptTables.{format-number, option-number, format-numbered, option-numbered, kept-file-count, kept-files-of, bytes-known, fields-known, files-known, mapped, thawed-field, thawed-file, thawed-files, frozen-field, frozen-file}
-use Rattle.kept_tables.specs.declared.KeptField.{KeptField}
+use Rattle.kept_tables.specs.KeptTables.{format-number, option-number, format-numbered, option-numbered, kept-field-count, kept-fields-of, kept-file-count, kept-files-of, bytes-known, fields-known, files-known, mapped, thawed-field, thawed-file, thawed-files, frozen-field, frozen-file}
 use Rattle.kept_tables.specs.declared.KeptFile.{KeptFile}
 
 -- ---- frozen and thawed again
@@ -75,18 +75,38 @@ files-back d t =
     mapped-back frozen-file thawed-file (file-count d) (d .files) (no-definition .files) each (t .unused)
 
 -- ---- what stands behind a count is not looked at
-mapped-unseen : {A B : Type 0} (f : A → B) (l other : List A) (rest : List B) (n : ℕ) → take n l ≡ take n other → mapped f l rest n ≡ mapped f other rest n
-mapped-unseen f l other rest n e = ap (λ t. t ++ drop n rest) (take-map f n l ∙ ap (map f) e ∙ sym (take-map f n other))
+-- what is looked at of a file: its numbers, and the fields in use
+abbrev pub seen : KeptFile → KeptFile
+seen k = record { number = k .number; count = k .count; «max_isn» = k .«max_isn»; fields = kept-fields-of k }
 
-pub fields-unseen : (number count highest : ℕ) (fields other : List KeptField) → take (min count max-fields) fields ≡ take (min count max-fields) other
-    → thawed-file (record { number = number; count = count; «max_isn» = highest; fields = fields }) ≡ thawed-file (record { number = number; count = count; «max_isn» = highest; fields = other })
+seen-again : (k : KeptFile) → kept-fields-of (seen k) ≡ kept-fields-of k
+seen-again k = take-take (kept-field-count k) (kept-field-count k) (k .fields) (omega arith)
+
+file-seen : (k : KeptFile) → thawed-file (seen k) ≡ thawed-file k
 unfolding thawed-file
-fields-unseen number count highest fields other e =
-    λ i. record { number = number; «max_isn» = highest; count = count; fields = mapped-unseen thawed-field fields other (no-file .fields) (min count max-fields) e i }
+file-seen k =
+    let fields = take-map thawed-field (kept-field-count k) (kept-fields-of k) ∙ ap (map thawed-field) (seen-again k) ∙ sym (take-map thawed-field (kept-field-count k) (k .fields)) in
+    λ i. record { number = k .number; «max_isn» = k .«max_isn»; count = k .count; fields = fields i ++ drop (kept-field-count k) (no-file .fields) }
 
-pub files-unseen : (count : ℕ) (files other : List KeptFile) → kept-files-of count files ≡ kept-files-of count other → thawed-files count files ≡ thawed-files count other
-unfolding thawed-files
-files-unseen count files other e = mapped-unseen thawed-file files other (no-definition .files) (kept-file-count count) e
+bytes-seen : (k : KeptFile) → fields-known (seen k) ≡ fields-known k
+unfolding fields-known
+bytes-seen k = ap (all bytes-known) (seen-again k)
+
+each-seen : (l : List KeptFile) → (map thawed-file (map seen l) ≡ map thawed-file l) × (all fields-known (map seen l) ≡ all fields-known l)
+each-seen [] = (refl, refl)
+each-seen (k ∷ l) = (λ i. file-seen k i ∷ each-seen l .0 i, rw (bytes-seen k, each-seen l .1))
+
+-- two tables of which the same is looked at
+module _ (count : ℕ) (files other : List KeptFile) (same : map seen (kept-files-of count files) ≡ map seen (kept-files-of count other)) where
+  pub files-unseen : thawed-files count files ≡ thawed-files count other
+  unfolding thawed-files
+  files-unseen =
+      let thaw = sym (each-seen (kept-files-of count files) .0) ∙ ap (map thawed-file) same ∙ each-seen (kept-files-of count other) .0 in
+      ap (λ t. t ++ drop (kept-file-count count) (no-definition .files)) (take-map thawed-file (kept-file-count count) files ∙ thaw ∙ sym (take-map thawed-file (kept-file-count count) other))
+
+  pub known-unseen : files-known count files ≡ files-known count other
+  unfolding files-known
+  known-unseen = sym (each-seen (kept-files-of count files) .1) ∙ ap (all fields-known) same ∙ each-seen (kept-files-of count other) .1
 
 -- ---- every byte of what was frozen is known
 format-known : (f : Format) → ltb (format-number f) 4 ≡ true
