@@ -26,6 +26,7 @@ pub fn table(results: &Results) -> String {
         against_sqlite(results),
         checks_by_reference(results),
         unique_check(results),
+        free_isn(results),
         entries_256(results),
         line(
             "growth with entries: farthest point from a straight line",
@@ -126,12 +127,23 @@ fn checks_by_reference(results: &Results) -> Aim {
     at_most(what, 1.2, ratios.collect())
 }
 
-fn unique_check(results: &Results) -> Aim {
-    let wanted = |scan: &&Scan| scan.name.starts_with("unique");
+/// The passes over a file whose names begin so, against Rust.
+fn passes(results: &Results, begin: &str) -> Vec<Named> {
+    let wanted = |scan: &&Scan| scan.name.starts_with(begin);
     let rows = results.scans.iter().filter(wanted);
-    let ratios = rows.map(|scan| (scan.name.to_string(), against_rust(&scan.times)));
+    rows.map(|scan| (scan.name.to_string(), against_rust(&scan.times)))
+        .collect()
+}
+
+fn unique_check(results: &Results) -> Aim {
     let what = "time of a unique check of 4,000 records against Rust's comparison of slices";
-    at_most(what, 1.2, ratios.collect())
+    at_most(what, 1.2, passes(results, "unique"))
+}
+
+fn free_isn(results: &Results) -> Aim {
+    let what =
+        "time of N1's search through 4,094 ISNs against Rust's reading of each slot's first byte";
+    at_most(what, 2.0, passes(results, "N1"))
 }
 
 fn entries_256(results: &Results) -> Aim {

@@ -73,7 +73,7 @@ fn free_isn(rounds: usize) -> Scan {
         assert_eq!(black_box(free), None);
     });
     Scan {
-        name: "N1's search, no ISN free",
+        name: "N1's search, only the mark's own ISN free",
         times: each_of(MAX_ISN - 1, rounds_of(with, without, bytes, rounds)),
     }
 }

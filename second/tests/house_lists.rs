@@ -87,6 +87,23 @@ fn the_program_prints_the_outputs() {
     }
 }
 
+/// `crates/party_lists` runs the proved `partycall` on every list, and holds it to each one's name and output.
+#[test]
+fn the_proved_program_is_given_every_list() {
+    let names: BTreeSet<String> = lists().into_iter().map(|list| list.name).collect();
+    let args = text("../crates/party_lists/args");
+    let given: BTreeSet<String> = args.lines().map(String::from).collect();
+    assert_eq!(given, names);
+    let mut printed = String::new();
+    for name in args.lines() {
+        let list = list(name);
+        let data = fs::read(path(&format!("../crates/party_lists/data/{name}"))).expect(name);
+        assert!(data == list.input, "{name}");
+        printed += &format!("{name}\n{}", list.output);
+    }
+    assert_eq!(text("../crates/party_lists/stdout"), printed);
+}
+
 #[test]
 fn every_response_has_every_response() {
     let list = list("every-response");

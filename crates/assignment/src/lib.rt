@@ -2,10 +2,10 @@
 // no holder".
 ghost use mathlib.Core.Path.{_≡_};
 ghost use mathlib.Core.Bool.{not, _&&_};
-ghost use Prim.Native.Nat.{_*_, _≤_, _<_};
+ghost use Prim.Native.Nat.{_-_, _≤_, _<_};
 ghost use lib.ListN.{length};
 ghost use Rattle.lists.specs.Folds.{any};
-ghost use Rattle.lists.specs.Numbers.{from-to};
+ghost use Rattle.lists.specs.Numbers.{numbers};
 ghost use Rattle.entries.specs.Entries.{entries, is-of};
 ghost use Rattle.search.specs.Search.{first-of};
 ghost use Rattle.shares.specs.Chains.{free-isn};
@@ -16,12 +16,13 @@ use queue::Lookup;
 use search::Occupied;
 use shares::Share;
 
-// Whether the slot that begins at `at` has a record; the ISNs past `slots` have no slot.
-fn recorded_at(part: &[u8], slots: usize, isn: usize, at: usize) -> bool
-    requires { ⌜ (isn ≤ slots → at < length (now part)) ⌝ }
-    ensures { λ r. ⌜ r ≡ recorded-at slots (now (part .entry)) at isn ⌝ }
+// Whether the slot from `at` to `next` has a record; one that does not end within the `room` has none.
+fn recorded_at(part: &[u8], room: usize, at: usize, next: usize) -> bool
+    requires { ⌜ room ≤ length (now part) ⌝ }
+    requires { ⌜ at < next ⌝ }
+    ensures { λ r. ⌜ r ≡ recorded-at room (now (part .entry)) at next ⌝ }
 {
-    if slots < isn {
+    if room < next {
         return false;
     }
     part[at] == 1
@@ -41,67 +42,72 @@ fn is_held(queue: &[u64], count: usize, file: u8, isn: u16) -> bool
 // Whether the slot has no record, and nobody holds its ISN. An ISN that its holder has emptied is not free.
 fn is_free(
     part: &[u8],
-    slots: usize,
-    isn: usize,
+    room: usize,
     at: usize,
+    next: usize,
+    isn: usize,
     file: u8,
     queue: &[u64],
     count: usize,
 ) -> bool
-    requires { ⌜ (isn ≤ slots → at < length (now part)) ⌝ }
+    requires { ⌜ room ≤ length (now part) ⌝ }
+    requires { ⌜ at < next ⌝ }
     requires { ⌜ isn < 65536 ⌝ }
-    ensures { λ r. ⌜ r ≡ (not (recorded-at slots (now (part .entry)) at isn) && not (any (is-of file isn) (entries (now (queue .entry)) count))) ⌝ }
+    ensures { λ r. ⌜ r ≡ (not (recorded-at room (now (part .entry)) at next) && not (any (is-of file isn) (entries (now (queue .entry)) count))) ⌝ }
 {
-    if recorded_at(part, slots, isn, at) {
+    if recorded_at(part, room, at, next) {
         return false;
     }
     !is_held(queue, count, file, isn as u16)
 }
 
-// The first free ISN from `from` to `last`, in a part with so many whole slots of a size.
+// The first free ISN from `from` on and before `end`, in a part that has slots of a size in its first `room` bytes.
 fn first_free(
     part: &[u8],
+    room: usize,
     size: usize,
-    slots: usize,
     from: usize,
-    last: usize,
+    end: usize,
     file: u8,
     queue: &[u64],
     count: usize,
 ) -> Occupied
+    requires { ⌜ room ≤ length (now part) ⌝ }
     requires { ⌜ 1 ≤ size ⌝ }
     requires { ⌜ size ≤ 4081 ⌝ }
-    requires { ⌜ slots * size ≤ length (now part) ⌝ }
     requires { ⌜ 1 ≤ from ⌝ }
     requires { ⌜ from ≤ 65536 ⌝ }
-    requires { ⌜ last < 65536 ⌝ }
-    ensures { λ r. ⌜ r ≡ first-of (free-at slots size (now (part .entry)) file (entries (now (queue .entry)) count)) (from-to from last) ⌝ }
+    requires { ⌜ end ≤ 65536 ⌝ }
+    ensures { λ r. ⌜ r ≡ first-of (free-at room size (now (part .entry)) file (entries (now (queue .entry)) count)) (numbers (end - from) from) ⌝ }
 {
     let mut at = (from - 1) * size;
     let mut isn = from;
-    while isn <= last {
-        if is_free(part, slots, isn, at, file, queue, count) {
+    while isn < end {
+        let next = at + size;
+        if is_free(part, room, at, next, isn, file, queue, count) {
             return Occupied::At(isn as u16);
         }
-        at += size;
+        at = next;
         isn += 1;
     }
     Occupied::Nowhere
 }
 
-// N1's ISN: the first free one after the one that it last gave, and round from 1 to that.
+// N1's ISN: the first free one after the mark, which is the ISN that it last gave, up to the highest, and then from 1 up to the mark's own.
+// Going round takes no division and no remainder: each search compares with its end, and a slot is there if it ends within the room.
 pub fn free_isn(call: Call, share: Share, queue: &[u64], f: File, part: &[u8]) -> Occupied
     ensures { λ r. ⌜ r ≡ free-isn f (now (part .entry)) call share (now (queue .entry)) ⌝ }
 {
     let size = records::slot_length(f);
-    let slots = store::slot_count(f, part.len());
-    let last = share.last_assigned as usize;
+    let room = slices::least(layout::file_size(f), part.len());
+    let mark = share.last_assigned as usize;
+    let after = mark + 1;
     let later = first_free(
         part,
+        room,
         size,
-        slots,
-        last + 1,
-        f.max_isn as usize,
+        after,
+        f.max_isn as usize + 1,
         call.file,
         queue,
         share.count,
@@ -109,5 +115,5 @@ pub fn free_isn(call: Call, share: Share, queue: &[u64], f: File, part: &[u8]) -
     if let Occupied::At(isn) = later {
         return Occupied::At(isn);
     }
-    first_free(part, size, slots, 1, last, call.file, queue, share.count)
+    first_free(part, room, size, 1, after, call.file, queue, share.count)
 }

@@ -15,15 +15,22 @@ abbrev pub numbers : ℕ → ℕ → List ℕ
 numbers zero k = []
 numbers (suc n) k = k ∷ numbers n (k + 1)
 
+-- those from k on that are less than an end
+pub before-more : (k end : ℕ) → k < end → numbers (end - k) k ≡ k ∷ numbers (end - (k + 1)) (k + 1)
+before-more k end h = let e : end - k ≡ suc (end - (k + 1)) = omega arith in rw e
+
+pub before-none : (k end : ℕ) → end ≤ k → numbers (end - k) k ≡ []
+before-none k end h = let e : end - k ≡ zero = omega arith in rw e
+
 -- the numbers from k to n, both counted
 abbrev pub from-to : ℕ → ℕ → List ℕ
 from-to k n = numbers (n + 1 - k) k
 
 pub from-to-more : (k n : ℕ) → k ≤ n → from-to k n ≡ k ∷ from-to (k + 1) n
-from-to-more k n h = let e : n + 1 - k ≡ suc (n + 1 - (k + 1)) = omega arith in rw e
+from-to-more k n h = before-more k (n + 1) (omega arith)
 
 pub from-to-none : (k n : ℕ) → n < k → from-to k n ≡ []
-from-to-none k n h = let e : n + 1 - k ≡ zero = omega arith in rw e
+from-to-none k n h = before-none k (n + 1) (omega arith)
 
 -- a property of each of them
 pub each-number : (P : ℕ → Type 0) (n k : ℕ) → ((m : ℕ) → k ≤ m → m < k + n → P m) → Each P (numbers n k)

@@ -92,6 +92,10 @@ house-calls =
 one-table : List ℕ
 one-table = 0x01 ∷ 0x01 ∷ 0x00 ∷ 0x01 ∷ 0x02 ∷ 0x52 ∷ 0x43 ∷ 0x01 ∷ 0x41 ∷ 0x55 ∷ 0x02 ∷ 0x48 ∷ 0x48 ∷ 0x02 ∷ 0x41 ∷ 0x20 ∷ 0x00 ∷ []
 
+-- a file of highest ISN 2 with one field, RC
+two-table : List ℕ
+two-table = 0x01 ∷ 0x01 ∷ 0x00 ∷ 0x02 ∷ 0x02 ∷ 0x52 ∷ 0x43 ∷ 0x01 ∷ 0x41 ∷ 0x20 ∷ 0x00 ∷ []
+
 -- a file of highest ISN 3 with one field, PA, packed, two bytes, unique
 packed-table : List ℕ
 packed-table = 0x01 ∷ 0x01 ∷ 0x00 ∷ 0x03 ∷ 0x02 ∷ 0x50 ∷ 0x41 ∷ 0x02 ∷ 0x50 ∷ 0x55 ∷ 0x00 ∷ []
@@ -126,6 +130,17 @@ emptied-calls =
     sent "N1" blank 2 0 0 (text "RC.") (text "3") ∷
     sent "ET" blank 1 0 0 [] [] ∷
     sent "N1" blank 2 0 0 (text "RC.") (text "3") ∷ []
+
+-- the record at the ISN that N1 gave last, which is the highest, goes; then two N1s
+going-round-calls : List Given
+going-round-calls =
+    sent "N1" blank 1 0 0 (text "RC.") (text "A") ∷
+    sent "N1" blank 1 0 0 (text "RC.") (text "B") ∷
+    sent "ET" blank 1 0 0 [] [] ∷
+    sent "E1" option-H 1 2 0 [] [] ∷
+    sent "ET" blank 1 0 0 [] [] ∷
+    sent "N1" blank 1 0 0 (text "RC.") (text "C") ∷
+    sent "N1" blank 1 0 0 (text "RC.") (text "D") ∷ []
 
 -- 1 with sign C, with F, and with D; 0 with D and with C
 packed-calls : List Given
@@ -212,6 +227,11 @@ rows =
       computed = printed one-table emptied-calls;
       expected = text "0 1 0 0" ∷ text "0 0 1 1" ∷ text "0 1 0 0" ∷ text "75 0 0 0" ∷ text "75 0 0 0" ∷ text "0 0 1 2" ∷ text "0 1 0 0" ∷ [];
     } ∷
+    -- document 02, No. 3: "a run with only the mark's ISN free gives it, then 75"
+    record {
+      computed = printed two-table going-round-calls;
+      expected = text "0 1 0 0" ∷ text "0 2 0 0" ∷ text "0 0 2 1" ∷ text "0 2 0 0" ∷ text "0 0 1 2" ∷ text "0 2 0 0" ∷ text "75 0 0 0" ∷ [];
+    } ∷
     -- "Judging uniqueness before P is put in stored form"
     record {
       computed = printed packed-table packed-calls;
@@ -248,5 +268,5 @@ named-options = refl
 
 -- a `refl` for each row: one for all rows computes several times as long
 computed-as-expected : Each (λ r. r .computed ≡ r .expected) rows
-unfolding assorted-calls doubled-store house-table house-calls one-table packed-table given-up-calls changed-twice-calls emptied-calls packed-calls rows record-length field-offset file-offset store-size image-length place valid file-valid field-valid name-valid format-of option-of file-item field-item item-of read-from read-table stored below-zero allowed null-value field-named format-valid element places named-twice length-needed needed-within fits read-fields write-fields values-allowed null-record slot-fits has-record get shown lowest elsewhere put-record empty fresh file-part with-part pack-of unpack-of entries holder held-by repeated append change closed remove-queue remove-images remove-count image-has keep-image settled first-change-queue first-change-images put-back-in put-back restore command-of has-option too-short well-made removed backed-out clocked target rows-usable rows-understood is-overdue session-in-transaction access-refused file-unknown isn-invalid format-refused field-twice record-length-refused value-refused none-found held-elsewhere presence-refused not-held release-refused file-full limit-reached queue-full new-record value-taken held imaged written erased effect-at admitted-session admitted-user admitted perform step set-up decimal line-of
-computed-as-expected = (refl, (refl, (refl, (refl, (refl, (refl, (refl, (refl, (refl, (refl, (refl, (refl, (refl, (refl, (refl, (refl, tt))))))))))))))))
+unfolding assorted-calls doubled-store house-table house-calls one-table two-table packed-table given-up-calls changed-twice-calls emptied-calls going-round-calls packed-calls rows record-length field-offset file-offset store-size image-length place valid file-valid field-valid name-valid format-of option-of file-item field-item item-of read-from read-table stored below-zero allowed null-value field-named format-valid element places named-twice length-needed needed-within fits read-fields write-fields values-allowed null-record slot-fits has-record get shown lowest elsewhere put-record empty fresh file-part with-part pack-of unpack-of entries holder held-by repeated append change closed remove-queue remove-images remove-count image-has keep-image settled first-change-queue first-change-images put-back-in put-back restore command-of has-option too-short well-made removed backed-out clocked target rows-usable rows-understood is-overdue session-in-transaction access-refused file-unknown isn-invalid format-refused field-twice record-length-refused value-refused none-found held-elsewhere presence-refused not-held release-refused file-full limit-reached queue-full new-record value-taken held imaged written erased effect-at admitted-session admitted-user admitted perform step set-up decimal line-of
+computed-as-expected = (refl, (refl, (refl, (refl, (refl, (refl, (refl, (refl, (refl, (refl, (refl, (refl, (refl, (refl, (refl, (refl, (refl, tt)))))))))))))))))
