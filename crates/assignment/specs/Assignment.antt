@@ -1,4 +1,4 @@
--- A free ISN of a row of slots.
+-- A free ISN of a row of slots, which have so many bytes: their room.
 use Prim.Native.Nat.{ℕ, _-_, _*_}
 use mathlib.Core.Bool.{Bool, not, _&&_}
 use mathlib.Core.List.{List}
