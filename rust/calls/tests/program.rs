@@ -89,6 +89,7 @@ fn the_saved_lists_are_as_expected() {
         "worked-example",
         "every-response",
         "two-kitchens",
+        "going-round",
         "command-reference-1",
     ];
     let mut files = vec![VECTORS.to_string()];
