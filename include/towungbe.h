@@ -60,7 +60,7 @@ enum {
     TOWUNGBE_FILE_UNDEFINED = 17,   /* the file is not defined */
     TOWUNGBE_COMMAND_UNKNOWN = 22,  /* the command is unknown, or the option is none of this command's */
     TOWUNGBE_ACCESS_ONLY = 29,      /* the user is access-only: he may call OP, CL, L1 and RE only */
-    TOWUNGBE_FORMAT_INVALID = 41,   /* the format buffer is not NAME,NAME. or names a field that the file does not have */
+    TOWUNGBE_FORMAT_INVALID = 41,   /* the format buffer is neither NAME,NAME. nor . alone, or names a field that the file does not have */
     TOWUNGBE_FIELD_TWICE = 44,      /* A1, N1 or N2 names a field twice */
     TOWUNGBE_HOLD_LIMIT = 47,       /* a new hold is needed, and the user has as many as his hold limit allows */
     TOWUNGBE_RECORD_BUFFER = 53,    /* the record buffer is shorter than what is named or read, or ET brings over 64 bytes */
@@ -198,6 +198,7 @@ uint32_t towungbe_set_up(towungbe_state *state, size_t capacity,
  *   state, capacity, store, queue, images
  *             as at set-up. Bytes of the store and of the images, and entries, past the sizes above are never touched.
  *   format    L1, L4, A1, N1, N2: the fields, as in "RC,HH."; no zero byte counts. Not looked at by other commands.
+ *             "." alone names none: L4 holds a record for its check only, N1 and N2 add a record of nulls.
  *   record    the record buffer. A1, N1, N2: the values of the named fields, one after another; longer is good.
  *             L1, L4: they are written here, at the front; it must have room. RE: the ET data, the same.
  *             ET: 1 to 64 bytes to keep as ET data, or none. Bytes past the quantity keep their values.

@@ -15,7 +15,7 @@ const USERS: std::ops::RangeInclusive<u8> = 1..=4;
 type Aim = fn(&mut Random, &Machine) -> Option<ListCall>;
 
 /// Each aim as often as it is tried; some find little to aim at.
-const AIMS: [(usize, Aim); 13] = [
+const AIMS: [(usize, Aim); 14] = [
     (12, hold_more),
     (4, hold_past_limit),
     (16, release_one),
@@ -27,6 +27,7 @@ const AIMS: [(usize, Aim); 13] = [
     (10, take_from_record),
     (16, leave_doubled),
     (1, name_twice_beside_unknown),
+    (8, name_nothing),
     (3, read_et_data),
     (10, end_at_last_sequence),
 ];
@@ -421,6 +422,27 @@ fn name_twice_beside_unknown(random: &mut Random, machine: &Machine) -> Option<L
         call: call_at(machine, command, user, place),
         format,
         record: vec![b'1'; 8],
+    })
+}
+
+/// A call that names no field: a record is read, held or replaced, or one of nulls added; rarely there is a comma before
+/// its period.
+fn name_nothing(random: &mut Random, machine: &Machine) -> Option<ListCall> {
+    let place = random.pick_any(&places(machine))?;
+    let user = changer(random, machine, place)?;
+    let (command, option) = match records(machine).contains(&place) {
+        true => random.pick(&[(b"L1", b' '), (b"L4", b' '), (b"A1", b' '), (b"A1", b'H')]),
+        false => random.pick(&[(b"N1", b' '), (b"N2", b' ')]),
+    };
+    let format = match random.once_in(8) {
+        true => [&file(machine, place.0).fields[0].name[..], b",."].concat(),
+        false => b".".to_vec(),
+    };
+    let length = random.pick(&[0, 0, 1, 40]);
+    Some(ListCall {
+        call: with_option(option, call_at(machine, command, user, place)),
+        format,
+        record: random.bytes(length),
     })
 }
 

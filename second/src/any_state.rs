@@ -261,6 +261,8 @@ pub fn call(random: &mut Random, machine: &Machine) -> ListCall {
         b"AA,AA.",
         b"AC.",
         b"AD,AC,AB,AA.",
+        b".",
+        b"AA,.",
         b"",
     ]);
     let record = (0..random.pick(&[0, 1, 2, 4, 8, 64, 65]))

@@ -8,7 +8,7 @@ use crate::state::{self, Answer, Call, COMMANDS};
 use crate::store;
 
 /// The cases of single rules.
-const RULES: [&str; 19] = [
+const RULES: [&str; 27] = [
     "RI of one ISN",
     "RI of one ISN beside an unchanged entry",
     "RI of one ISN beside a changed entry",
@@ -28,6 +28,14 @@ const RULES: [&str; 19] = [
     "L4 with bytes",
     "RE with bytes",
     "RE without bytes",
+    "L1 of no fields",
+    "L4 of no fields",
+    "A1 of no fields",
+    "N1 of no fields",
+    "N2 of no fields",
+    "N1 of no fields, a null taken",
+    "N2 of no fields, a null taken",
+    "period alone behind names",
 ];
 
 /// The options that are named for some command, and the blank.
@@ -68,12 +76,25 @@ pub fn of(before: &Machine, after: &Machine, list_call: &ListCall, answer: &Answ
         (b"A1", 0) => doubled_case(after, list_call),
         (b"ET", 0) => sequence_case(before, call),
         (b"A1" | b"N1" | b"N2", 41) => name_case(after, list_call),
-        (b"L4", 0) => vec!["L4 with bytes"],
+        (b"L4", 0) if answer.quantity > 0 => vec!["L4 with bytes"],
         (b"RE", 0) if answer.quantity > 0 => vec!["RE with bytes"],
         (b"RE", 0) => vec!["RE without bytes"],
         _ => Vec::new(),
     }));
+    cases.extend(no_fields_case(list_call, answer));
     cases
+}
+
+/// A format buffer that names nothing, or has a period of its own behind its names.
+fn no_fields_case(list_call: &ListCall, answer: &Answer) -> Option<String> {
+    let name = String::from_utf8_lossy(&list_call.call.command);
+    match (&list_call.format[..], answer.response) {
+        _ if !matches!(&*name, "L1" | "L4" | "A1" | "N1" | "N2") => None,
+        (b".", 0) => Some(format!("{name} of no fields")),
+        (b".", 198) => Some(format!("{name} of no fields, a null taken")),
+        ([_, _, b',', b'.'], 41) => Some("period alone behind names".to_string()),
+        _ => None,
+    }
 }
 
 fn strings(cases: &[&str]) -> Vec<String> {

@@ -67,8 +67,12 @@ fn stored_packed(value: &[u8]) -> Vec<u8> {
 }
 
 /// The fields that a format buffer names, by index, in its order; none where it breaks its form or names an unknown
-/// field. "Names divided by commas, ended by a period, nothing after, at least one name."
+/// field. "Names divided by commas, ended by a period, nothing after, at least one name"; "`.` alone now means no fields"
+/// (document 02, No. 5).
 pub fn elements(file: &File, format: &[u8]) -> Option<Vec<usize>> {
+    if format == b"." {
+        return Some(Vec::new());
+    }
     let (end, names) = format.split_last()?;
     if *end != b'.' {
         return None;

@@ -304,8 +304,11 @@ fn isn(random: &mut Random, file: &File, command: [u8; 2]) -> u16 {
     }
 }
 
-/// The fields to name: often all, rarely one twice, more often so for reading.
+/// The fields to name: often all or none, rarely one twice, more often so for reading.
 fn elements(random: &mut Random, file: &File, command: [u8; 2]) -> Vec<usize> {
+    if random.once_in(6) {
+        return Vec::new();
+    }
     let count = u64::from(file.count);
     let mut elements: Vec<usize> = (0..file.count as usize)
         .filter(|_| random.below(4) > 0)
@@ -323,7 +326,7 @@ fn elements(random: &mut Random, file: &File, command: [u8; 2]) -> Vec<usize> {
     elements
 }
 
-/// The format buffer of these fields.
+/// The format buffer of these fields: `.` where they are none.
 pub fn format_of(file: &File, elements: &[usize]) -> Vec<u8> {
     let names: Vec<&[u8]> = elements
         .iter()
@@ -350,6 +353,7 @@ fn malform(random: &mut Random, format: &mut Vec<u8>) {
         2 => format.push(random.pick(b".,A")),
         3 => format.insert(0, random.pick(b"., ")),
         4 => format[0] = random.pick(b"azZ0"),
+        _ if format.len() == 1 => format[0] = b',',
         _ => format[1] = random.pick(b"Za9."),
     }
 }

@@ -89,6 +89,75 @@ row! { changes:
                                       L1 isn=1 format=AB,AA,AB. length=6 -> 0 1 5 0 4344324344";
 }
 
+// Document 02, No. 5: "The format buffer `.` alone now means no fields." That nothing is written past a quantity, the bench checks.
+row! { no_fields:
+    reading_writes_nothing "N1 format=AA,AB. record=314142 -> 0 1 0 0
+                            L1 isn=1 format=. -> 0 1 0 0
+                            L1 isn=1 format=. record=EEEEEE -> 0 1 0 0
+                            L4 isn=1 format=. record=EEEEEE -> 0 1 0 0
+                            L1 option=I format=. -> 0 1 0 0
+                            L4 option=I isn=2 format=. -> 3 0 0 0";
+    l4_holds "N1 format=AA. record=31 -> 0 1 0 0
+              ET -> 0 0 1 1
+              L4 isn=2 format=. -> 113 0 0 0
+              L4 isn=4 format=. -> 113 0 0 0
+              OP -> 0 0 0 0
+              L4 isn=1 format=. -> 0 1 0 0
+              OP -> 9 0 0 0
+              L4 isn=1 format=. -> 0 1 0 0
+              L4 user=2 isn=1 format=. -> 145 0 0 0
+              L1 isn=1 format=. -> 0 1 0 0
+              RI user=1 isn=1 -> 0 1 1 0";
+    a1_wants_the_hold "N1 format=AA. record=31 -> 0 1 0 0
+                       ET -> 0 0 1 1
+                       A1 isn=1 format=. -> 144 0 0 0
+                       A1 isn=2 option=H format=. -> 113 0 0 0
+                       A1 isn=1 option=H format=. -> 0 1 0 0
+                       A1 user=2 isn=1 option=H format=. -> 145 0 0 0";
+    a1_is_a_change "N1 format=AA,AB. record=314142 -> 0 1 0 0
+                    ET -> 0 0 1 1
+                    A1 isn=1 option=H format=. record=325858 -> 0 1 0 0
+                    L1 isn=1 format=AA,AB. length=3 -> 0 1 3 0 314142
+                    RI isn=1 -> 146 0 0 0
+                    RI -> 0 0 0 0
+                    N1 user=2 format=AA. record=31 -> 198 0 0 0
+                    BT user=1 -> 0 0 1 0
+                    L1 isn=1 format=AA,AB. length=3 -> 0 1 3 0 314142";
+    a1_keeps_the_image_of_the_first_change "N1 format=AA. record=31 -> 0 1 0 0
+                    ET -> 0 0 1 1
+                    A1 isn=1 option=H format=. -> 0 1 0 0
+                    A1 isn=1 format=AA. record=32 -> 0 1 0 0
+                    A1 isn=1 format=. -> 0 1 0 0
+                    BT -> 0 0 1 0
+                    L1 isn=1 format=AA. length=1 -> 0 1 1 0 31";
+    nulls_are_added "N1 format=. -> 0 1 0 0
+                     L1 isn=1 format=AA,AB. length=3 -> 0 1 3 0 202020
+                     N1 file=2 format=. record=FF -> 0 1 0 0
+                     L1 file=2 isn=1 format=DA,PA,BA. length=5 -> 0 1 5 0 3030000F00
+                     N1 format=. -> 198 0 0 0
+                     N2 isn=3 format=. -> 198 0 0 0
+                     N2 file=2 isn=2 format=. -> 198 0 0 0";
+}
+
+/// "Changes no byte": lent bytes are not put in stored form, and a doubled value that is not named is not judged.
+#[test]
+fn a1_of_no_fields_leaves_lent_bytes() {
+    let mut bench = bench();
+    bench.run(
+        "N1 file=2 format=PA. record=001C -> 0 1 0 0
+         N1 file=2 format=PA. record=002C -> 0 2 0 0
+         ET -> 0 0 2 1",
+    );
+    let store = &mut bench.machine.store;
+    let records = 3 * 4;
+    store[records..records + 12].copy_from_slice(b"\x01xy\x0A\xBC\x00\x01??\x0A\xBC\x00");
+    let lent = store.clone();
+    bench.run("A1 file=2 isn=1 option=H format=. -> 0 1 0 0");
+    assert_eq!(bench.machine.store, lent);
+    bench.run("BT -> 0 0 1 0");
+    assert_eq!(bench.machine.store, lent);
+}
+
 row! { n1:
     after_the_last_one_given "N1 format=AA. record=31 -> 0 1 0 0
                               E1 isn=1 -> 0 1 0 0

@@ -241,8 +241,8 @@ fn check_format(letters: &str) {
     let call = good_call(letters).replace(" format=AA.", "");
     bench().run(&format!("{call} -> 41 0 0 0"));
     for format in [
-        ".", "AA", "AA,", "AA,.", ",AA.", "AA..", "AA.AB.", "AA,,AB.", "AA,AB", "AA.,", "A.",
-        "AAA.", "AC.", "aa.", "AA,AC.", "AC,AA.", "AA;AB.", "DA.", "AAAB.", "*.",
+        "..", ",.", "AA", "AA,", "AA,.", ",AA.", "AA..", "AA.AB.", "AA,,AB.", "AA,AB", "AA.,",
+        "A.", "AAA.", "AC.", "aa.", "AA,AC.", "AC,AA.", "AA;AB.", "DA.", "AAAB.", "*.",
     ] {
         bench().run(&format!("{call} format={format} -> 41 0 0 0"));
     }

@@ -160,6 +160,10 @@ two-adds = adds 0 ∷ sent "N1" blank 2 0 0 500 (text "RC.") (text "7") ∷ []
 erasing : List Given
 erasing = sent "N2" blank 1 3 0 0 (text "RC.") (text "9") ∷ bare "ET" 1 0 0 ∷ sent "E1" option-H 1 3 0 0 [] [] ∷ []
 
+-- a record that is kept, and an A1 with `.` at clock 5
+replacing-nothing : List Given
+replacing-nothing = adds 0 ∷ bare "ET" 1 0 0 ∷ sent "A1" option-H 1 1 0 5 (text ".") [] ∷ []
+
 -- a journal at clock 7
 abbrev ahead : Journal
 ahead = record { clock = 7; members = new-journal .members; changes = [] }
@@ -219,6 +223,12 @@ rows =
     -- L4 starts one; L1, RE and RI do not; RI of all entries ends none
     row (adds 0 ∷ bare "ET" 1 0 0 ∷ sent "L4" blank 2 1 0 0 (text "RC.") (0 ∷ []) ∷ bare "RI" 2 0 0 ∷ bare "RE" 1 0 0 ∷ bare "RI" 1 0 0 ∷ [])
     (both (some (text "2AB") ∷ none ∷ none ∷ []) (2 ∷ []) (idle 900) (since 0 900) 0) ∷
+    -- document 02, No. 5: with `.` A1 starts one and sets nothing, and so there is nothing that a back-out puts back; L4 starts one; N1 adds nulls
+    row replacing-nothing (both (some (text "2AB") ∷ none ∷ none ∷ []) (1 ∷ []) (since 5 900) (idle 900) 5) ∷
+    back-out-row replacing-nothing (out 1 ∷ []) (both (some (text "2AB") ∷ none ∷ none ∷ []) [] (idle 900) (idle 900) 5) ∷
+    row (adds 0 ∷ bare "ET" 1 0 0 ∷ sent "L4" blank 2 1 0 7 (text ".") [] ∷ [])
+    (both (some (text "2AB") ∷ none ∷ none ∷ []) (2 ∷ []) (idle 900) (since 7 900) 7) ∷
+    row (sent "N1" blank 1 0 0 0 (text ".") [] ∷ []) (both (some (text "   ") ∷ none ∷ none ∷ []) (1 ∷ []) (since 0 900) (idle 900) 0) ∷
     -- "A response of 72's row or an earlier one changes nothing in it": 22, 72; a later one raises the clock: 113
     row (adds 0 ∷ bare "XX" 2 1 901 ∷ bare "HI" 33 1 901 ∷ []) (both (some (text "2AB") ∷ none ∷ none ∷ []) (1 ∷ []) (since 0 900) (idle 900) 0) ∷
     row (adds 0 ∷ bare "HI" 2 4 901 ∷ []) (both (none ∷ none ∷ none ∷ []) [] (idle 900) (idle 900) 901) ∷
@@ -288,7 +298,7 @@ record Worked : Type 0 where
   journal-rows-as-expected : Each (λ (r : JournalRow). r .computed ≡ r .expected) journal-rows
 
 worked : Worked
-unfolding house-table house-calls two-adds erasing packed-table rows journal-rows record-length field-offset file-offset store-size image-length place valid file-valid field-valid name-valid format-of option-of file-item field-item item-of read-from read-table stored below-zero allowed null-value field-named format-valid element places named-twice length-needed needed-within fits read-fields write-fields values-allowed null-record slot-fits has-record get lowest elsewhere put-record empty fresh file-part with-part pack-of unpack-of entries holder held-by repeated append change closed remove-queue remove-images remove-count image-has keep-image settled first-change-queue first-change-images put-back-in put-back restore command-of has-option too-short well-made removed backed-out clocked target rows-usable rows-understood is-overdue session-in-transaction access-refused file-unknown isn-invalid format-refused field-twice record-length-refused value-refused none-found held-elsewhere presence-refused not-held release-refused file-full limit-reached queue-full new-record value-taken held imaged written erased effect-at admitted-session admitted-user admitted perform step set-up fitting direct-call set-up-database apply struck log-clock log-start log-change log-end log-limit fed record-told run
+unfolding house-table house-calls two-adds erasing replacing-nothing packed-table rows journal-rows record-length field-offset file-offset store-size image-length place valid file-valid field-valid name-valid format-of option-of file-item field-item item-of read-from read-table stored below-zero allowed null-value field-named format-valid element places named-twice length-needed needed-within fits read-fields write-fields values-allowed null-record slot-fits has-record get lowest elsewhere put-record empty fresh file-part with-part pack-of unpack-of entries holder held-by repeated append change closed remove-queue remove-images remove-count image-has keep-image settled first-change-queue first-change-images put-back-in put-back restore command-of has-option too-short well-made removed backed-out clocked target rows-usable rows-understood is-overdue session-in-transaction access-refused file-unknown isn-invalid format-refused field-twice record-length-refused value-refused none-found held-elsewhere presence-refused not-held release-refused file-full limit-reached queue-full new-record value-taken held imaged written erased effect-at admitted-session admitted-user admitted perform step set-up fitting direct-call set-up-database apply struck log-clock log-start log-change log-end log-limit fed record-told run
 worked = record {
   good = refl;
   chosen = record { different = refl; active = refl };
@@ -296,6 +306,6 @@ worked = record {
   held-one = refl;
   held-two = refl;
   gap-closed = refl;
-  rows-as-expected = (refl, (refl, (refl, (refl, (refl, (refl, (refl, (refl, (refl, (refl, (refl, (refl, (refl, (refl, (refl, (refl, (refl, (refl, (refl, (refl, (refl, (refl, (refl, (refl, (refl, (refl, (refl, tt)))))))))))))))))))))))))));
+  rows-as-expected = (refl, (refl, (refl, (refl, (refl, (refl, (refl, (refl, (refl, (refl, (refl, (refl, (refl, (refl, (refl, (refl, (refl, (refl, (refl, (refl, (refl, (refl, (refl, (refl, (refl, (refl, (refl, (refl, (refl, (refl, (refl, tt)))))))))))))))))))))))))))))));
   journal-rows-as-expected = (refl, (refl, (refl, (refl, tt))));
 }

@@ -1,11 +1,12 @@
 -- A format buffer (document 01, 'Hold, change, end'): "It is names divided by commas, ended by a period, nothing after, at least one name:
--- `AA,AB.` The record buffer has the values one after another. Reading may name a field twice."
+-- `AA,AB.` The record buffer has the values one after another. Reading may name a field twice." Document 02, No. 5: "The format buffer `.` alone
+-- now means no fields".
 use Prim.Native.Nat.{ℕ}
-use mathlib.Core.Bool.{Bool, true, false, not, _&&_}
+use mathlib.Core.Bool.{Bool, true, false, not, _&&_, _||_}
 use mathlib.Core.List.{List, [], _∷_}
 use lib.Dec.{eqb, leb}
 use lib.ListN.{drop}
-use Rattle.lists.specs.Tests.{cond}
+use Rattle.lists.specs.Tests.{cond, eqbs}
 use Rattle.lists.specs.Folds.{all, total, distinct}
 use Rattle.definition.specs.Table.{field-at, fields-of, same-name}
 use Rattle.records.specs.Records.{field-length}
@@ -40,6 +41,10 @@ form (a ∷ b ∷ []) = false
 form (a ∷ b ∷ mark ∷ []) = eqb mark period
 form (a ∷ b ∷ mark ∷ next ∷ rest) = eqb mark comma && form (next ∷ rest)
 
+-- "`.` alone": the whole buffer, not what is left of one behind its names
+abbrev pub period-alone : List ℕ → Bool
+period-alone format = eqbs format (period ∷ [])
+
 -- ---- the fields that it names
 abbrev pub has-name : Name → Field → Bool
 has-name n g = same-name (g .name) n
@@ -55,9 +60,13 @@ found Nowhere = false
 abbrev pub known : File → Name → Bool
 known f n = found (field-named f n)
 
--- the row of response 41: "format buffer breaks its form, or unknown name"
+-- names in their form, each of them a field's
+abbrev pub names-valid : File → List ℕ → Bool
+names-valid f format = form format && all (known f) (names format)
+
+-- the row of response 41, said the other way: "format buffer breaks its form, or unknown name"
 unfoldable pub format-valid : File → List ℕ → Bool
-format-valid f format = form format && all (known f) (names format)
+format-valid f format = period-alone format || names-valid f format
 
 -- the field of the first of the names
 abbrev pub first-named : File → List Name → Found

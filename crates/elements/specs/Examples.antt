@@ -41,9 +41,14 @@ rows =
     -- a field twice: `RC,RC.` `RC,HH,RC.`
     record { buffer = 82 ∷ 67 ∷ 44 ∷ 82 ∷ 67 ∷ 46 ∷ []; valid = true; named = 0 ∷ 0 ∷ []; twice = true; needed = 2 } ∷
     record { buffer = 82 ∷ 67 ∷ 44 ∷ 72 ∷ 72 ∷ 44 ∷ 82 ∷ 67 ∷ 46 ∷ []; valid = true; named = 0 ∷ 1 ∷ 0 ∷ []; twice = true; needed = 4 } ∷
-    -- no name: the empty buffer, `.`
+    -- no fields: `.`; no buffer: no byte, `..` `,.` `. ` `RC,.`, another byte alone
+    record { buffer = 46 ∷ []; valid = true; named = []; twice = false; needed = 0 } ∷
     record { buffer = []; valid = false; named = []; twice = false; needed = 0 } ∷
-    record { buffer = 46 ∷ []; valid = false; named = []; twice = false; needed = 0 } ∷
+    record { buffer = 46 ∷ 46 ∷ []; valid = false; named = []; twice = false; needed = 0 } ∷
+    record { buffer = 44 ∷ 46 ∷ []; valid = false; named = []; twice = false; needed = 0 } ∷
+    record { buffer = 46 ∷ 32 ∷ []; valid = false; named = []; twice = false; needed = 0 } ∷
+    record { buffer = 82 ∷ 67 ∷ 44 ∷ 46 ∷ []; valid = false; named = 0 ∷ []; twice = false; needed = 1 } ∷
+    record { buffer = 44 ∷ []; valid = false; named = []; twice = false; needed = 0 } ∷
     -- no period at the end: `RC` `RC,` `RC,HH`
     record { buffer = 82 ∷ 67 ∷ []; valid = false; named = []; twice = false; needed = 0 } ∷
     record { buffer = 82 ∷ 67 ∷ 44 ∷ []; valid = false; named = 0 ∷ []; twice = false; needed = 1 } ∷

@@ -1,5 +1,5 @@
--- Laws of a format buffer for callers: what a name finds; where the places lie; what a valid buffer has, element by element; that no field
--- comes twice; and how long the values are. One step of a loop over a buffer is in `Steps`.
+-- Laws of a format buffer for callers: what a name finds; where the places lie; what valid names have, element by element; that the period alone
+-- names nothing; that no field comes twice; and how long the values are. One step of a loop over a buffer is in `Steps`.
 -- Assumes nothing.
 use Prim.Native.Nat.{ℕ, suc, _+_, _-_, _*_, _≤_, _<_}
 use native.Mathlib.Omega.{arith}
@@ -10,12 +10,12 @@ use lib.Dec.{eqb, leb}
 use lib.ListN.{length, getD, drop, length-take, length-drop}
 use lib.Seq.{getD-take, length-take-le}
 use borrow.Author.Tests.{not-true, not-false, eqb-false, leb-true, leb-false}
-use Rattle.lists.specs.Tests.{Outcome, holds, fails, outcome, not-both, and-left, and-right}
+use Rattle.lists.specs.Tests.{eqbs-true, Outcome, holds, fails, outcome, not-both, and-left, and-right}
 use Rattle.lists.specs.Folds.{all, any, total, distinct, Each, distinct-at}
 use Rattle.definition.specs.Table.{max-fields, no-field, field-at, field-count, fields-of}
 use Rattle.definition.specs.Shape.{FileShape}
 use Rattle.elements.specs.Search.{first-found, first-none}
-use Rattle.elements.specs.Elements.{comma, names, form, has-name, field-named, found, known, format-valid, first-named, element, before, places-of, places, named-twice, length-at, length-needed, needed-within}
+use Rattle.elements.specs.Elements.{comma, period, names, form, has-name, field-named, found, known, period-alone, names-valid, first-named, element, before, places-of, places, named-twice, length-at, length-needed, needed-within}
 use Rattle.elements.specs.Lists.{distinct-most}
 use Rattle.elements.specs.Steps.{name-at, names-more, element-name, places-step}
 use Rattle.definition.specs.declared.Name.{Name}
@@ -72,7 +72,7 @@ module _ (f : File) where
       go [] k e = absurd (let z : _≡_ {A = ℕ} 0 1 = cc in omega arith)
       go (n ∷ ns) k e = named-inside f n k e
 
--- ---- a valid buffer: nothing but whole elements, and each names a field
+-- ---- valid names: nothing but whole elements, and each names a field
 pub found-nowhere : (x : Found) → found x ≡ true → x ≡ Nowhere → ⊥
 found-nowhere x t e = not-both false (rw e at t) refl
 
@@ -91,12 +91,10 @@ pub record Whole (f : File) (l : List ℕ) : Type 0 where
   pub fields : all (known f) (names l) ≡ true
 
 module _ (f : File) where
-  pub valid-form : (format : List ℕ) → format-valid f format ≡ true → form format ≡ true
-  unfolding format-valid
+  pub valid-form : (format : List ℕ) → names-valid f format ≡ true → form format ≡ true
   valid-form format v = and-left (form format) (all (known f) (names format)) v
 
-  pub valid-whole : (format : List ℕ) → format-valid f format ≡ true → Whole f format
-  unfolding format-valid
+  pub valid-whole : (format : List ℕ) → names-valid f format ≡ true → Whole f format
   valid-whole format v =
       record {
         elements = form-whole format (valid-form format v) .1;
@@ -117,7 +115,7 @@ module _ (f : File) where
   unfolding places
   whole-places l w = omega (arith, places-of-all (names l) (w .fields), w .elements)
 
-  pub valid-places : (format : List ℕ) → format-valid f format ≡ true → (1 ≤ length (places f format)) × (length (places f format) * 3 ≡ length format)
+  pub valid-places : (format : List ℕ) → names-valid f format ≡ true → (1 ≤ length (places f format)) × (length (places f format) * 3 ≡ length format)
   unfolding places
   valid-places format v =
       let w = valid-whole format v in
@@ -140,6 +138,23 @@ module _ (f : File) (format : List ℕ) (i : ℕ) (w : Whole f (drop i format)) 
         elements = omega (arith, w .elements, ap length (names-more format i whole-fits), length-drop i format, length-drop (i + 3) format);
         fields = and-right (known f (name-at format i)) (all (known f) (names (drop (i + 3) format))) (rw (names-more format i whole-fits) at (w .fields));
       }
+
+-- ---- the period alone: no field is named, none comes twice (44), and no room is needed (53)
+module _ (f : File) (format : List ℕ) (alone : period-alone format ≡ true) where
+  pub alone-is : format ≡ period ∷ []
+  alone-is = eqbs-true format (period ∷ []) alone
+
+  pub alone-places : places f format ≡ []
+  unfolding places
+  alone-places = rw alone-is
+
+  pub alone-once : named-twice f format ≡ false
+  unfolding named-twice
+  alone-once = rw alone-places
+
+  pub alone-needed : length-needed f format ≡ 0
+  unfolding length-needed
+  alone-needed = rw alone-places
 
 -- ---- no field named twice
 module _ (f : File) (format : List ℕ) (t : named-twice f format ≡ false) where

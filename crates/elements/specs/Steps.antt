@@ -1,15 +1,16 @@
 -- One element of a format buffer after the other: what the buffer says is what its first element says, and what is left of it (`drop 3`) says.
+-- And a buffer of one byte.
 -- Assumes nothing.
 use Prim.Native.Nat.{ℕ, _+_, _-_, _≤_, _<_}
 use native.Mathlib.Omega.{arith}
 use mathlib.Core.Path.{_≡_, refl, ap, _∙_}
-use mathlib.Core.Bool.{false, _&&_}
+use mathlib.Core.Bool.{false, _&&_, and-true}
 use mathlib.Core.List.{List, [], _∷_}
 use lib.Dec.{eqb}
 use lib.ListN.{length, getD, drop, length-drop}
 use lib.Seq.{drop-drop, getD-drop}
 use Rattle.lists.specs.Folds.{total}
-use Rattle.elements.specs.Elements.{comma, period, names, form, field-named, first-named, element, before, places-of, places, length-at, length-of, length-needed}
+use Rattle.elements.specs.Elements.{comma, period, names, form, period-alone, field-named, first-named, element, before, places-of, places, length-at, length-of, length-needed}
 use Rattle.definition.specs.declared.Name.{Name}
 use Rattle.definition.specs.declared.File.{File}
 use Rattle.records.specs.declared.Found.{Found}
@@ -54,6 +55,12 @@ form-none (a ∷ []) h = refl
 form-none (a ∷ b ∷ []) h = refl
 form-none (a ∷ b ∷ mark ∷ []) h = absurd (omega arith)
 form-none (a ∷ b ∷ mark ∷ next ∷ rest) h = absurd (omega arith)
+
+-- ---- a buffer of one byte
+pub alone-only : (l : List ℕ) → length l ≡ 1 → period-alone l ≡ eqb (getD l 0 0) period
+alone-only [] h = absurd (omega arith)
+alone-only (a ∷ []) h = and-true (eqb a period)
+alone-only (a ∷ b ∷ rest) h = absurd (omega arith)
 
 -- ---- the element at the byte i of a buffer
 module _ (format : List ℕ) (i : ℕ) where

@@ -1,8 +1,8 @@
-// The format buffer (document 01): "names divided by commas, ended by a period, nothing after, at least one name". An element is a name of
-// two bytes and the byte after it, so elements begin at the indices 0, 3, 6, .. Any bytes may come in, and a field may be named any number of
-// times: nothing here grows with the buffer.
+// The format buffer: "names divided by commas, ended by a period, nothing after, at least one name" (document 01), or the period alone, which
+// names no field (document 02, No. 5). An element is a name of two bytes and the byte after it, so elements begin at the indices 0, 3, 6, ..
+// Any bytes may come in, and a field may be named any number of times: nothing here grows with the buffer.
 ghost use mathlib.Core.Path.{_≡_};
-ghost use Rattle.elements.specs.Elements.{form, field-named, format-valid, element, named-twice, length-of, needed-within};
+ghost use Rattle.elements.specs.Elements.{form, period-alone, field-named, names-valid, format-valid, element, named-twice, length-of, needed-within};
 use definition::File;
 use definition::MAX_FIELDS;
 use definition::Name;
@@ -54,7 +54,7 @@ pub fn element(f: File, format: &[u8], at: usize) -> Found
     field_named(f, name)
 }
 
-// Whether the bytes have the form of a format buffer.
+// Whether the bytes have the form of names.
 fn form(format: &[u8]) -> bool
     ensures { λ r. ⌜ r ≡ form (now (format .entry)) ⌝ }
 {
@@ -74,9 +74,9 @@ fn form(format: &[u8]) -> bool
     }
 }
 
-// Whether the buffer has the form, and every name in it is a field's.
-pub fn format_valid(f: File, format: &[u8]) -> bool
-    ensures { λ r. ⌜ r ≡ format-valid f (now (format .entry)) ⌝ }
+// Whether the names have their form, and each is a field's.
+fn names_valid(f: File, format: &[u8]) -> bool
+    ensures { λ r. ⌜ r ≡ names-valid f (now (format .entry)) ⌝ }
 {
     if !form(format) {
         return false;
@@ -91,6 +91,26 @@ pub fn format_valid(f: File, format: &[u8]) -> bool
         i += ELEMENT;
     }
     true
+}
+
+// Whether the buffer is the period alone.
+fn period_alone(format: &[u8]) -> bool
+    ensures { λ r. ⌜ r ≡ period-alone (now (format .entry)) ⌝ }
+{
+    if format.len() != 1 {
+        return false;
+    }
+    format[0] == PERIOD
+}
+
+// Whether the buffer is the period alone, or names fields. The period behind names and a comma is no buffer of its own: `form` refuses it.
+pub fn format_valid(f: File, format: &[u8]) -> bool
+    ensures { λ r. ⌜ r ≡ format-valid f (now (format .entry)) ⌝ }
+{
+    if period_alone(format) {
+        return true;
+    }
+    names_valid(f, format)
 }
 
 // Whether a field is named twice: a flag for each place says whether its field was named before.

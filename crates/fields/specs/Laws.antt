@@ -1,5 +1,5 @@
--- Laws for callers: lengths; fields that are not named stay as they are; what was written by a format buffer and is read by the same one is the
--- stored form of what was given.
+-- Laws for callers: lengths; fields that are not named stay as they are; what a buffer that names none does; what was written by a format buffer
+-- and is read by the same one is the stored form of what was given.
 -- Assumes nothing.
 use Prim.Native.Nat.{ℕ, _+_, _≤_, _<_}
 use native.Mathlib.Omega.{arith}
@@ -22,7 +22,7 @@ use Rattle.values.specs.Laws.{stored-length}
 use Rattle.elements.specs.Elements.{places, named-twice, length-at, length-needed}
 use Rattle.elements.specs.Laws.{places-inside, places-distinct, needed-total}
 use Rattle.lists.specs.Parts.{Apart, sets-other, sets-same}
-use Rattle.fields.specs.Fields.{field-bytes, front-value, behind, read-out, write-in, fits, read-fields, write-fields}
+use Rattle.fields.specs.Fields.{field-bytes, front-value, behind, read-out, write-in, fits, read-fields, write-fields, values-allowed}
 use Rattle.definition.specs.declared.File.{File}
 
 -- ---- lengths: nothing grows or shrinks
@@ -83,6 +83,25 @@ module _ (f : File) (s : FileShape f) where
       go : (b : Bool) → field-bytes f k (cond b (write-in f (places f format) values content) content) ≡ field-bytes f k content
       go true = unnamed-stays k q (places f format) (places-inside f format) e values content
       go false = refl
+
+-- ---- no field is named
+either-way : (b : Bool) (l : List ℕ) → cond b l l ≡ l
+either-way true l = refl
+either-way false l = refl
+
+-- nothing is read, every value is allowed, and a record stays as it is, whatever its bytes
+module _ (f : File) (format : List ℕ) (none-named : places f format ≡ []) where
+  pub read-none : (content buffer : List ℕ) → read-fields f format content buffer ≡ buffer
+  unfolding read-fields
+  read-none content buffer = rw none-named (either-way (fits f format buffer content) buffer)
+
+  pub write-none : (values content : List ℕ) → write-fields f format values content ≡ content
+  unfolding write-fields
+  write-none values content = rw none-named (either-way (fits f format values content) content)
+
+  pub allowed-none : (values : List ℕ) → values-allowed f format values ≡ true
+  unfolding values-allowed
+  allowed-none values = rw (needed-total f format, none-named, le-leb 0 (length values) (omega arith))
 
 -- ---- what was written is read in stored form
 -- the values that belong to the fields at some places, one after another, each in stored form

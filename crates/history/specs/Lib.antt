@@ -21,6 +21,7 @@ pub mod ChangesLogged
 pub mod ChangesEffect
 pub mod ChangesAllowed
 pub mod Changing
+pub mod NoFields
 pub mod Serving
 pub mod Stepping
 pub mod EntryLists

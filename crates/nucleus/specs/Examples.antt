@@ -142,6 +142,57 @@ going-round-calls =
     sent "N1" blank 1 0 0 (text "RC.") (text "C") ∷
     sent "N1" blank 1 0 0 (text "RC.") (text "D") ∷ []
 
+-- L4 with `.` of an ISN without a record and of one with it, which is then held; L1 with option `I`
+hold-only-calls : List Given
+hold-only-calls =
+    sent "N1" blank 1 0 0 (text "RC,HH.") (text "2AB") ∷
+    sent "ET" blank 1 0 0 [] [] ∷
+    sent "L4" blank 1 2 0 (text ".") [] ∷
+    sent "L4" blank 1 1 0 (text ".") (text "???") ∷
+    sent "L4" blank 2 1 0 (text ".") [] ∷
+    sent "L1" option-I 2 1 0 (text ".") [] ∷
+    sent "RI" blank 1 1 0 [] [] ∷ []
+
+-- A1 with `.` without a hold and with option `H`; RI after it, of its ISN and of all; and a back-out
+no-fields-calls : List Given
+no-fields-calls =
+    sent "N1" blank 1 0 0 (text "RC,HH.") (text "2AB") ∷
+    sent "ET" blank 1 0 0 [] [] ∷
+    sent "A1" blank 1 1 0 (text ".") [] ∷
+    sent "A1" option-H 1 1 0 (text ".") (text "3CD") ∷
+    sent "RI" blank 1 1 0 [] [] ∷
+    sent "RI" blank 1 0 0 [] [] ∷
+    sent "BT" blank 1 0 0 [] [] ∷
+    sent "L1" blank 1 1 0 (text "RC,HH.") (text "???") ∷ []
+
+-- a change behind it, and a back-out of both
+changed-after-calls : List Given
+changed-after-calls =
+    sent "N1" blank 1 0 0 (text "RC,HH.") (text "2AB") ∷
+    sent "ET" blank 1 0 0 [] [] ∷
+    sent "A1" option-H 1 1 0 (text ".") [] ∷
+    sent "A1" blank 1 1 0 (text "RC.") (text "3") ∷
+    sent "BT" blank 1 0 0 [] [] ∷
+    sent "L1" blank 1 1 0 (text "RC,HH.") (text "???") ∷ []
+
+-- a record of nulls, and others
+nulls-calls : List Given
+nulls-calls =
+    sent "N1" blank 1 0 0 (text ".") [] ∷
+    sent "L1" blank 1 1 0 (text "RC,HH.") (text "???") ∷
+    sent "N1" blank 1 0 0 (text ".") [] ∷
+    sent "N2" blank 2 3 0 (text ".") [] ∷ []
+
+-- no byte, two periods, a comma or a name before the period, a blank behind it
+no-buffer-calls : List Given
+no-buffer-calls =
+    sent "L1" blank 1 1 0 [] [] ∷
+    sent "L4" blank 1 1 0 (text "..") [] ∷
+    sent "A1" blank 1 1 0 (text ",.") [] ∷
+    sent "N1" blank 1 0 0 (text "RC,.") (text "2") ∷
+    sent "N2" blank 1 1 0 (text ". ") [] ∷
+    sent "L1" blank 1 1 0 (text ".") [] ∷ []
+
 -- 1 with sign C, with F, and with D; 0 with D and with C
 packed-calls : List Given
 packed-calls =
@@ -173,6 +224,10 @@ counted-to sequence n = change-user 1 (λ u. counted sequence opening) n
 -- records 1 and 2 have one unique value
 doubled-store : List ℕ
 doubled-store = 1 ∷ text "2AB" ++ 1 ∷ text "2CD" ++ replicate 8 0
+
+-- record 1 is a packed 1 with sign C, which is not its stored form
+unstored-store : List ℕ
+unstored-store = 1 ∷ 0x00 ∷ 0x1C ∷ replicate 13 0
 
 -- ISN 1 is held by a user; user 1 is in a transaction, or not
 abbrev held-entry : ℕ → Entry
@@ -232,6 +287,37 @@ rows =
       computed = printed two-table going-round-calls;
       expected = text "0 1 0 0" ∷ text "0 2 0 0" ∷ text "0 0 2 1" ∷ text "0 2 0 0" ∷ text "0 0 1 2" ∷ text "0 2 0 0" ∷ text "75 0 0 0" ∷ [];
     } ∷
+    -- document 02, No. 5: "The format buffer `.` alone now means no fields": four numbers, and no bytes behind them; 113 and 145 as ever
+    record {
+      computed = printed house-table hold-only-calls;
+      expected = text "0 1 0 0" ∷ text "0 0 1 1" ∷ text "113 0 0 0" ∷ text "0 1 0 0" ∷ text "145 0 0 0" ∷ text "0 1 0 0" ∷ text "0 1 1 0" ∷ [];
+    } ∷
+    -- "A1 with it keeps an image and changes no byte": 144 as ever, 146 behind it
+    record {
+      computed = printed house-table no-fields-calls;
+      expected =
+          text "0 1 0 0" ∷ text "0 0 1 1" ∷ text "144 0 0 0" ∷ text "0 1 0 0" ∷ text "146 0 0 0" ∷ text "0 0 0 0" ∷ text "0 0 1 0" ∷ text "0 1 3 0 324142" ∷ [];
+    } ∷
+    record {
+      computed = printed house-table changed-after-calls;
+      expected = text "0 1 0 0" ∷ text "0 0 1 1" ∷ text "0 1 0 0" ∷ text "0 1 0 0" ∷ text "0 0 1 0" ∷ text "0 1 3 0 324142" ∷ [];
+    } ∷
+    -- "N1 and N2 add a record of nulls": "nulls count too" where RC is unique
+    record {
+      computed = printed house-table nulls-calls;
+      expected = text "0 1 0 0" ∷ text "0 1 3 0 202020" ∷ text "198 0 0 0" ∷ text "198 0 0 0" ∷ [];
+    } ∷
+    -- "A buffer with no byte still gets 41", and so does every other that is not `.` alone; the last one is, and there is no record
+    record {
+      computed = printed house-table no-buffer-calls;
+      expected = text "41 0 0 0" ∷ text "41 0 0 0" ∷ text "41 0 0 0" ∷ text "41 0 0 0" ∷ text "41 0 0 0" ∷ text "113 0 0 0" ∷ [];
+    } ∷
+    -- "changes no byte": nor are lent bytes put in stored form
+    record {
+      computed =
+          printed-on (with-store unstored-store) packed-table (sent "A1" option-H 1 1 0 (text ".") [] ∷ sent "L1" blank 1 1 0 (text "PA.") (0 ∷ 0 ∷ []) ∷ []);
+      expected = text "0 1 0 0" ∷ text "0 1 2 0 001C" ∷ [];
+    } ∷
     -- "Judging uniqueness before P is put in stored form"
     record {
       computed = printed packed-table packed-calls;
@@ -268,5 +354,5 @@ named-options = refl
 
 -- a `refl` for each row: one for all rows computes several times as long
 computed-as-expected : Each (λ r. r .computed ≡ r .expected) rows
-unfolding assorted-calls doubled-store house-table house-calls one-table two-table packed-table given-up-calls changed-twice-calls emptied-calls going-round-calls packed-calls rows record-length field-offset file-offset store-size image-length place valid file-valid field-valid name-valid format-of option-of file-item field-item item-of read-from read-table stored below-zero allowed null-value field-named format-valid element places named-twice length-needed needed-within fits read-fields write-fields values-allowed null-record slot-fits has-record get shown lowest elsewhere put-record empty fresh file-part with-part pack-of unpack-of entries holder held-by repeated append change closed remove-queue remove-images remove-count image-has keep-image settled first-change-queue first-change-images put-back-in put-back restore command-of has-option too-short well-made removed backed-out clocked target rows-usable rows-understood is-overdue session-in-transaction access-refused file-unknown isn-invalid format-refused field-twice record-length-refused value-refused none-found held-elsewhere presence-refused not-held release-refused file-full limit-reached queue-full new-record value-taken held imaged written erased effect-at admitted-session admitted-user admitted perform step set-up decimal line-of
-computed-as-expected = (refl, (refl, (refl, (refl, (refl, (refl, (refl, (refl, (refl, (refl, (refl, (refl, (refl, (refl, (refl, (refl, (refl, tt)))))))))))))))))
+unfolding assorted-calls doubled-store house-table house-calls one-table two-table packed-table given-up-calls changed-twice-calls emptied-calls going-round-calls hold-only-calls no-fields-calls changed-after-calls nulls-calls no-buffer-calls packed-calls unstored-store rows record-length field-offset file-offset store-size image-length place valid file-valid field-valid name-valid format-of option-of file-item field-item item-of read-from read-table stored below-zero allowed null-value field-named format-valid element places named-twice length-needed needed-within fits read-fields write-fields values-allowed null-record slot-fits has-record get shown lowest elsewhere put-record empty fresh file-part with-part pack-of unpack-of entries holder held-by repeated append change closed remove-queue remove-images remove-count image-has keep-image settled first-change-queue first-change-images put-back-in put-back restore command-of has-option too-short well-made removed backed-out clocked target rows-usable rows-understood is-overdue session-in-transaction access-refused file-unknown isn-invalid format-refused field-twice record-length-refused value-refused none-found held-elsewhere presence-refused not-held release-refused file-full limit-reached queue-full new-record value-taken held imaged written erased effect-at admitted-session admitted-user admitted perform step set-up decimal line-of
+computed-as-expected = (refl, (refl, (refl, (refl, (refl, (refl, (refl, (refl, (refl, (refl, (refl, (refl, (refl, (refl, (refl, (refl, (refl, (refl, (refl, (refl, (refl, (refl, (refl, tt)))))))))))))))))))))))

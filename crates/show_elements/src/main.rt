@@ -79,6 +79,8 @@ fn good_formats() {
     judge_house(b"HH.", 3);
     judge_house(b"RC,RC.", 3);
     judge_house(b"RC,HH.", 2);
+    // No fields (document 02, No. 5).
+    judge_house(b".", 0);
 }
 
 fn bad_formats() {
@@ -86,7 +88,8 @@ fn bad_formats() {
     judge_house(b"RC,HH", 3);
     judge_house(b"RC.HH.", 3);
     judge_house(b"ZZ.", 3);
-    judge_house(b".", 3);
+    judge_house(b"RC,.", 3);
+    judge_house(b"..", 3);
     judge_house(b"", 3);
 }
 
@@ -98,7 +101,9 @@ fn house() {
     get(f, b"RC,HH.", &content);
     get(f, b"HH,RC.", &content);
     put(f, b"RC.", b"3", &mut content);
+    put(f, b".", b"4CD", &mut content);
     get(f, b"RC,RC.", &content);
+    get(f, b".", &content);
 }
 
 // The Command Reference's file 1: AA, AB packed, AC. Its A1 example replaces AA and AB and leaves AC; the old values are those of

@@ -18,7 +18,7 @@ use Rattle.definition.specs.declared.File.{File}
 use Rattle.records.specs.Records.{record-length, slot-length, slot-offset, file-size}
 use Rattle.records.specs.Laws.{slot-before}
 use Rattle.lists.specs.Numbers.{numbers, each-number}
-use Rattle.lists.specs.Pieces.{piece, patch, length-patch, patch-set, patch-same, patch-other, piece-first, piece-rest, set-other}
+use Rattle.lists.specs.Pieces.{piece, patch, length-patch, patch-own, patch-set, patch-same, patch-other, piece-first, piece-rest, set-other}
 use Rattle.lists.specs.Parts.{length-piece, Apart}
 use Rattle.store.specs.Store.{slot-count, slot-fits, has-record, record-of, shown, get, put-record, empty, fresh, cleared, isns-from}
 use Rattle.store.specs.Slots.{slot-inside}
@@ -218,6 +218,11 @@ module _ (f : File) (part : List ℕ) (isn : ℕ) (r : List ℕ) where
       let one : getD part at 0 ≡ 1 = eqb-true (getD part at 0) 1 (and-right (slot-fits f part isn) (eqb (getD part at 0) 1) h) in
       let same : set part at 1 ≡ part = ap (set part at) (sym one) ∙ set-getD part at 0 in
       ap (λ p. patch (at + 1) (record-length f) p r) (sym same) ∙ put-lent (has-fits f part isn h) e
+
+-- a record that is put back where it is changes no byte, whatever its bytes
+pub put-own : (f : File) (part : List ℕ) (isn : ℕ) → has-record f part isn ≡ true → put-record f part isn (record-of f part isn) ≡ part
+put-own f part isn h =
+    sym (put-over f part isn (record-of f part isn) h (record-of-length f part isn h)) ∙ patch-own (slot-offset f isn + 1) (record-length f) part
 
 -- ---- an ISN that is emptied
 module _ (f : File) (part : List ℕ) (isn : ℕ) where

@@ -90,6 +90,7 @@ fn the_saved_lists_are_as_expected() {
         "every-response",
         "two-kitchens",
         "going-round",
+        "no-fields",
         "command-reference-1",
     ];
     let mut files = vec![VECTORS.to_string()];

@@ -76,6 +76,19 @@ impl Nucleus {
     }
 
     /// Makes one call. The record buffer brings values or ET data; L1, L4 and RE write into its front, `quantity` bytes.
+    ///
+    /// The format buffer names fields, as in `RC,HH.`; `.` alone names none:
+    ///
+    /// ```
+    /// # use towungbe::{Call, Command, Nucleus, Response};
+    /// # let mut nucleus = Nucleus::new(b"\x01\x01\x00\x03\x02RC\x01AU\x00", 64)?;
+    /// let hold = Call::new(Command::L4, 1).with_file(1).with_isn(2);
+    /// assert_eq!(nucleus.call(&hold, b".", &mut []).response, Response::IsnInvalid);
+    /// nucleus.call(&Call::new(Command::N2, 1).with_file(1).with_isn(2), b"RC.", &mut b"2".to_vec());
+    /// let held = nucleus.call(&hold, b".", &mut []);
+    /// assert_eq!((held.response, held.isn, held.quantity), (Response::Good, 2, 0));
+    /// # Ok::<(), Response>(())
+    /// ```
     pub fn call(&mut self, call: &Call, format: &[u8], record: &mut [u8]) -> Answer {
         let mut block = Block::from(*call);
         let response = raw::call(

@@ -34,7 +34,7 @@ responses! {
     FileUndefined = 17, "The file is not defined.";
     CommandUnknown = 22, "The command is unknown, or the option is none of this command's.";
     AccessOnly = 29, "The user is access-only, and may call OP, CL, L1 and RE only.";
-    FormatInvalid = 41, "The format buffer is not names divided by commas and ended by a period, or it names a field that the file does not have.";
+    FormatInvalid = 41, "The format buffer is neither names divided by commas and ended by a period nor a period alone, or it names a field that the file does not have.";
     FieldTwice = 44, "A field is named twice, which only reading may do.";
     HoldLimit = 47, "The call needs a new hold, and the user has as many as his hold limit allows.";
     RecordBuffer = 53, "The record buffer is shorter than the named fields or the ET data, or ET brings more than 64 bytes.";
