@@ -15,7 +15,7 @@ const USERS: std::ops::RangeInclusive<u8> = 1..=4;
 type Aim = fn(&mut Random, &Machine) -> Option<ListCall>;
 
 /// Each aim as often as it is tried; some find little to aim at.
-const AIMS: [(usize, Aim); 14] = [
+const AIMS: [(usize, Aim); 15] = [
     (12, hold_more),
     (4, hold_past_limit),
     (16, release_one),
@@ -28,6 +28,7 @@ const AIMS: [(usize, Aim); 14] = [
     (16, leave_doubled),
     (1, name_twice_beside_unknown),
     (8, name_nothing),
+    (8, leave_unstored),
     (3, read_et_data),
     (10, end_at_last_sequence),
 ];
@@ -444,6 +445,16 @@ fn name_nothing(random: &mut Random, machine: &Machine) -> Option<ListCall> {
         format,
         record: random.bytes(length),
     })
+}
+
+/// A1 that names no field, of a record with a value in no stored form.
+fn leave_unstored(random: &mut Random, machine: &Machine) -> Option<ListCall> {
+    let mut chosen = records(machine);
+    chosen.retain(|place| fields::has_unstored(file(machine, place.0), content(machine, *place)));
+    let place = random.pick_any(&chosen)?;
+    let user = changer(random, machine, place)?;
+    let call = with_option(b'H', call_at(machine, b"A1", user, place));
+    Some(naming(call, file(machine, place.0), &[], Vec::new()))
 }
 
 /// RE of a user who has ET data.

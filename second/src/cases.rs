@@ -8,7 +8,7 @@ use crate::state::{self, Answer, Call, COMMANDS};
 use crate::store;
 
 /// The cases of single rules.
-const RULES: [&str; 27] = [
+const RULES: [&str; 28] = [
     "RI of one ISN",
     "RI of one ISN beside an unchanged entry",
     "RI of one ISN beside a changed entry",
@@ -31,6 +31,7 @@ const RULES: [&str; 27] = [
     "L1 of no fields",
     "L4 of no fields",
     "A1 of no fields",
+    "A1 of no fields, a value in no stored form",
     "N1 of no fields",
     "N2 of no fields",
     "N1 of no fields, a null taken",
@@ -73,7 +74,11 @@ pub fn of(before: &Machine, after: &Machine, list_call: &ListCall, answer: &Answ
     cases.extend(strings(&match (&call.command, answer.response) {
         (b"RI", 0) => release_cases(before, call, answer),
         (b"A1", 198) => taken_case(after, list_call),
-        (b"A1", 0) => doubled_case(after, list_call),
+        (b"A1", 0) => [
+            doubled_case(after, list_call),
+            unstored_case(after, list_call),
+        ]
+        .concat(),
         (b"ET", 0) => sequence_case(before, call),
         (b"A1" | b"N1" | b"N2", 41) => name_case(after, list_call),
         (b"L4", 0) if answer.quantity > 0 => vec!["L4 with bytes"],
@@ -161,6 +166,20 @@ fn doubled_case(after: &Machine, list_call: &ListCall) -> Vec<&'static str> {
     };
     match (0..file.used_fields().len()).any(is_doubled) {
         true => vec!["A1 beside a doubled value"],
+        false => Vec::new(),
+    }
+}
+
+/// A1 names no field of a record that has a value in no stored form.
+fn unstored_case(after: &Machine, list_call: &ListCall) -> Vec<&'static str> {
+    let call = &list_call.call;
+    let definition = &after.state.definition;
+    let (Some(index), b".") = (definition.file_index(call.file), &list_call.format[..]) else {
+        return Vec::new();
+    };
+    let content = store::record(definition, &after.store, index, call.isn);
+    match fields::has_unstored(&definition.files[index], content) {
+        true => vec!["A1 of no fields, a value in no stored form"],
         false => Vec::new(),
     }
 }

@@ -66,6 +66,15 @@ fn stored_packed(value: &[u8]) -> Vec<u8> {
     stored
 }
 
+/// Whether a record has a value that is not in stored form. No call leaves one, but a state that nobody set up may have it.
+pub fn has_unstored(file: &File, content: &[u8]) -> bool {
+    let is_unstored = |(index, field)| {
+        let value = &content[file.field_range(index)];
+        stored_form(field, value) != value
+    };
+    file.used_fields().iter().enumerate().any(is_unstored)
+}
+
 /// The fields that a format buffer names, by index, in its order; none where it breaks its form or names an unknown
 /// field. "Names divided by commas, ended by a period, nothing after, at least one name"; "`.` alone now means no fields"
 /// (document 02, No. 5).

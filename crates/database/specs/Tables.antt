@@ -95,7 +95,7 @@ module _ (r : Request) (isn : ℕ) (n : Nucleus) where
       go true = refl
       go false = refl
 
-  table-imaged : table (imaged r isn n) ≡ table n
+  pub table-imaged : table (imaged r isn n) ≡ table n
   unfolding imaged
   table-imaged = go (holder-of r (held r isn n) isn) ∙ table-held
     where

@@ -16,7 +16,7 @@ use Rattle.lists.specs.Numbers.{numbers}
 use Rattle.definition.specs.Table.{field-at, field-count, is-unique}
 use Rattle.definition.specs.declared.File.{File}
 use Rattle.definition.specs.declared.Definition.{Definition}
-use Rattle.elements.specs.Elements.{period-alone, format-valid, places, length-needed}
+use Rattle.elements.specs.Elements.{period-alone, format-valid, places}
 use Rattle.elements.specs.Laws.{alone-places, alone-once, alone-needed}
 use Rattle.fields.specs.Laws.{read-none, write-none, allowed-none}
 use Rattle.nulls.specs.Nulls.{null-record}
@@ -29,36 +29,28 @@ use Rattle.queue.specs.declared.Lookup.{Lookup}
 use Rattle.queue.specs.declared.Lookup.the-variants.{Held, Free}
 use Rattle.nucleus.specs.Commands.{commands, one-of, on-record, naming, bringing-values}
 use Rattle.nucleus.specs.Responses.{good}
-use Rattle.nucleus.specs.Nucleus.{Nucleus, Request, request, with-store}
-use Rattle.nucleus.specs.Target.{part-in, store-with, file-place, file, part, record-at, holder-of, target-isn, new-record}
-use Rattle.nucleus.specs.Rows.{first-cause, rows-last, format-refused, field-twice, value-refused, presence-refused, judged, is-taken, value-taken}
+use Rattle.nucleus.specs.Nucleus.{Nucleus, Request, request, max-et-data, data-at, with-store}
+use Rattle.nucleus.specs.Target.{part-in, store-with, command-in, file-place, file, part, record-at, holder-of, target-isn, new-record}
+use Rattle.nucleus.specs.Rows.{first-cause, rows-last, format-refused, field-twice, record-length-refused, value-refused, presence-refused, judged, is-taken, value-taken}
 use Rattle.nucleus.specs.Effects.{held, imaged-at, imaged, with-part-of, written, leaving, read-at, effect, effect-at}
 use Rattle.nucleus.specs.Step.{admitted, let-in, refusal, unless, perform, step}
 use Rattle.nucleus.specs.declared.Call.{Call}
-use Rattle.nucleus.specs.declared.Command.the-variants.{L1, L4, A1, N2}
+use Rattle.nucleus.specs.declared.Command.the-variants.{L1, L4, A1, N2, Et, Re}
 use Rattle.nucleus.specs.declared.Response.{Response}
+use Rattle.database.specs.Tables.{table-imaged}
 use Rattle.claim.specs.Journal.{replace, apply}
 use Rattle.history.specs.Accepted.{is-cause, accepted}
 use Rattle.history.specs.Changes.{rest-fails}
-use Rattle.history.specs.HoldMoves.{held-definition, held-store}
+use Rattle.history.specs.HoldMoves.{held-store}
 
--- ---- an image that is kept changes neither table nor store
-module _ (r : Request) (isn : ℕ) (n : Nucleus) where
-  imaged-definition : imaged r isn n .state .definition ≡ n .state .definition
-  unfolding imaged
-  imaged-definition = go (holder-of r (held r isn n) isn) ∙ held-definition r isn n
-    where
-      go : (l : Lookup) → imaged-at r l isn (held r isn n) .state .definition ≡ held r isn n .state .definition
-      go (Held i e) = refl
-      go Free = refl
-
-  imaged-store : imaged r isn n .store ≡ n .store
-  unfolding imaged
-  imaged-store = go (holder-of r (held r isn n) isn) ∙ held-store r isn n
-    where
-      go : (l : Lookup) → imaged-at r l isn (held r isn n) .store ≡ held r isn n .store
-      go (Held i e) = refl
-      go Free = refl
+-- ---- an image that is kept changes nothing in the store
+imaged-store : (r : Request) (isn : ℕ) (n : Nucleus) → imaged r isn n .store ≡ n .store
+unfolding imaged
+imaged-store r isn n = go (holder-of r (held r isn n) isn) ∙ held-store r isn n
+  where
+    go : (l : Lookup) → imaged-at r l isn (held r isn n) .store ≡ held r isn n .store
+    go (Held i e) = refl
+    go Free = refl
 
 -- a file's own part put back
 part-back : (d : Definition) (x : Found) (store : List ℕ) → store-with d x store (part-in d x store) ≡ store
@@ -72,7 +64,7 @@ module _ (r : Request) (n : Nucleus) (alone : period-alone (r .format) ≡ true)
   none-named : places (file r n) (r .format) ≡ []
   none-named = alone-places (file r n) (r .format) alone
 
-  -- ---- the rows of 41, 44, 53 and 55 do not hold, whatever the file and the record buffer
+  -- ---- the rows of 41, 44 and 55 do not hold, whatever the file and the record buffer; of 53 what is about RE and ET is left
   pub alone-valid : format-refused r n ≡ false
   unfolding format-refused format-valid
   alone-valid = rw alone (and-false (one-of naming (r .command)))
@@ -81,8 +73,11 @@ module _ (r : Request) (n : Nucleus) (alone : period-alone (r .format) ≡ true)
   unfolding field-twice
   alone-not-twice = rw (alone-once (file r n) (r .format) alone) (and-false (one-of bringing-values (r .command)))
 
-  pub alone-room : ltb (length (r .buffer)) (length-needed (file r n) (r .format)) ≡ false
-  alone-room = rw (alone-needed (file r n) (r .format) alone) (le-ltb (length (r .buffer)) 0 (omega arith))
+  pub alone-room : record-length-refused r n
+      ≡ ((command-in r n (Re ∷ []) && ltb (length (r .buffer)) (data-at (n .state) (r .call .user) .length))
+      || (command-in r n (Et ∷ []) && ltb max-et-data (length (r .buffer))))
+  unfolding record-length-refused
+  alone-room = rw (alone-needed (file r n) (r .format) alone, le-ltb (length (r .buffer)) 0 (omega arith), and-false (one-of naming (r .command)))
 
   pub alone-allowed : value-refused r n ≡ false
   unfolding value-refused
@@ -119,7 +114,7 @@ module _ (r : Request) (n : Nucleus) (alone : period-alone (r .format) ≡ true)
         let m = imaged r isn n in
         let own : put-record (file r n) (part r n) isn (new-record r n isn) ≡ part r n = ap (put-record (file r n) (part r n) isn) (same-record isn) ∙ put-own (file r n) (part r n) isn there in
         let store : store-with (m .state .definition) (file-place r m) (m .store) (part r n) ≡ m .store
-        = rw (imaged-definition r isn n, imaged-store r isn n) (part-back (n .state .definition) (file-place r n) (n .store)) in
+        = rw (table-imaged r isn n, imaged-store r isn n) (part-back (n .state .definition) (file-place r n) (n .store)) in
         ap (λ p. with-part-of r p m) own ∙ ap (λ s. with-store s m) store
 
     there-if-passed : is-cause (first-cause (rows-last r n)) ≡ false → record-at r n isn ≡ true
