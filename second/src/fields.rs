@@ -66,7 +66,7 @@ fn stored_packed(value: &[u8]) -> Vec<u8> {
     stored
 }
 
-/// Whether a record has a value that is not in stored form. No call leaves one, but a state that nobody set up may have it.
+/// Whether a record has a value that is not in stored form. No call stores one, but a state that nobody set up may have it.
 pub fn has_unstored(file: &File, content: &[u8]) -> bool {
     let is_unstored = |(index, field)| {
         let value = &content[file.field_range(index)];
