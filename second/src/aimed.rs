@@ -33,11 +33,16 @@ const AIMS: [(usize, Aim); 15] = [
     (10, end_at_last_sequence),
 ];
 
-/// A call aimed at one of the rules; none where the nucleus had nothing for a few of them. There is rarely a value that
-/// only an image has, so that is looked for first.
+/// What there is rarely something for, so that it is looked for first, each once in so many times.
+const RARE: [(u64, Aim); 2] = [(3, take_unstored), (2, take_from_image)];
+
+/// A call aimed at one of the rules; none where the nucleus had nothing for a few of them.
 pub fn call(random: &mut Random, machine: &Machine) -> Option<ListCall> {
-    if random.once_in(2) {
-        if let Some(list_call) = take_from_image(random, machine) {
+    for (times, aim) in RARE {
+        if !random.once_in(times) {
+            continue;
+        }
+        if let Some(list_call) = aim(random, machine) {
             return Some(list_call);
         }
     }
@@ -341,11 +346,21 @@ fn take_from_record(random: &mut Random, machine: &Machine) -> Option<ListCall> 
     take(random, machine, &taken_by_records(machine))
 }
 
+/// The bytes of a unique value in no stored form, which is not taken.
+fn take_unstored(random: &mut Random, machine: &Machine) -> Option<ListCall> {
+    let mut unstored = taken_by_records(machine);
+    unstored.retain(|taken| {
+        let field = &file(machine, taken.place.0).fields[taken.field];
+        fields::stored_form(field, &taken.value) != taken.value
+    });
+    take(random, machine, &unstored)
+}
+
 fn take_from_image(random: &mut Random, machine: &Machine) -> Option<ListCall> {
     take(random, machine, &taken_by_images(machine))
 }
 
-/// A1 of another record of the file that names the field with the value, which is taken.
+/// A1 of another record of the file that names the field with the value.
 fn take(random: &mut Random, machine: &Machine, all: &[Taken]) -> Option<ListCall> {
     let records = records(machine);
     let mut pairs: Vec<(&Taken, Place)> = Vec::new();

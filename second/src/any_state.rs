@@ -2,7 +2,7 @@
 //! tables that may break a rule.
 
 use crate::aimed;
-use crate::definition::{self, Definition, Field, MAX_FIELDS, MAX_FILES};
+use crate::definition::{self, Definition, Field, File, MAX_FIELDS, MAX_FILES};
 use crate::hold::Entry;
 use crate::machine::Machine;
 use crate::random::{self, ListCall, Random};
@@ -145,7 +145,7 @@ fn hold_some(random: &mut Random, machine: &mut Machine) {
 }
 
 /// Lets two ISNs of a file have the same record, so that each unique value in it is there twice; in a file that has
-/// unique fields and others, if any.
+/// unique fields and others, if any. Some packed values in it are as a call brings them, few of these in stored form.
 fn double_record(random: &mut Random, machine: &mut Machine) {
     let definition = &machine.state.definition;
     let is_mixed = |index: &usize| {
@@ -160,9 +160,19 @@ fn double_record(random: &mut Random, machine: &mut Machine) {
         return;
     };
     let one = random.between(1, u64::from(definition.files[index].max_isn) - 1) as u16;
-    let content = store::record(definition, &machine.store, index, one).to_vec();
+    let mut content = store::record(definition, &machine.store, index, one).to_vec();
+    bring_packed(random, &definition.files[index], &mut content);
     for isn in [one, one + 1] {
         store::put_record(definition, &mut machine.store, index, isn, &content);
+    }
+}
+
+fn bring_packed(random: &mut Random, file: &File, content: &mut [u8]) {
+    for field in 0..file.used_fields().len() {
+        if file.fields[field].format == b'P' && random.once_in(2) {
+            let value = random::values(random, file, &[field]);
+            content[file.field_range(field)].copy_from_slice(&value);
+        }
     }
 }
 
@@ -266,7 +276,7 @@ pub fn call(random: &mut Random, machine: &Machine) -> ListCall {
         b"",
     ]);
     let record = (0..random.pick(&[0, 1, 2, 4, 8, 64, 65]))
-        .map(|_| random.pick(&[0, 1, b'0', b'1', b' ', 0x0F, 0x0C, 0x1D]))
+        .map(|_| random.pick(&[0, 1, b'0', b'1', b' ', 0x0F, 0x0C, 0x1B, 0x1D]))
         .collect();
     ListCall {
         call,

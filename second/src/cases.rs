@@ -1,6 +1,7 @@
 //! Single cases that a comparison must have, so that a wrong rule is seen; and which of them a call was.
 
 use crate::compare;
+use crate::definition::File;
 use crate::fields;
 use crate::machine::Machine;
 use crate::random::ListCall;
@@ -8,7 +9,7 @@ use crate::state::{self, Answer, Call, COMMANDS};
 use crate::store;
 
 /// The cases of single rules.
-const RULES: [&str; 28] = [
+const RULES: [&str; 31] = [
     "RI of one ISN",
     "RI of one ISN beside an unchanged entry",
     "RI of one ISN beside a changed entry",
@@ -37,14 +38,23 @@ const RULES: [&str; 28] = [
     "N1 of no fields, a null taken",
     "N2 of no fields, a null taken",
     "period alone behind names",
+    "0 in a packed sign's place",
+    "9 in a packed sign's place",
+    "packed bytes of another record, stored otherwise",
 ];
 
 /// The options that are named for some command, and the blank.
 const OPTIONS: [u8; 4] = *b" IHA";
 
-/// All cases: those of single rules, and each command with each option.
+/// The half bytes that are signs.
+const SIGNS: std::ops::RangeInclusive<u8> = 0xA..=0xF;
+
+/// All cases: those of single rules, each packed sign of a zero and of another number, and each command with each option.
 pub fn all() -> Vec<String> {
     let mut all = RULES.map(str::to_string).to_vec();
+    for sign in SIGNS {
+        all.extend([true, false].map(|is_zero| sign_case(is_zero, sign)));
+    }
     for (_, command) in COMMANDS {
         all.extend(OPTIONS.map(|option| option_case(command, option)));
         all.push(option_case(command, 0));
@@ -58,6 +68,13 @@ fn option_case(command: [u8; 2], option: u8) -> String {
         b' ' => format!("{name}, option blank"),
         _ if OPTIONS.contains(&option) => format!("{name}, option {}", char::from(option)),
         _ => format!("{name}, other option"),
+    }
+}
+
+fn sign_case(is_zero: bool, sign: u8) -> String {
+    match is_zero {
+        true => format!("packed zero with {sign:X}"),
+        false => format!("packed number with {sign:X}"),
     }
 }
 
@@ -87,7 +104,48 @@ pub fn of(before: &Machine, after: &Machine, list_call: &ListCall, answer: &Answ
         _ => Vec::new(),
     }));
     cases.extend(no_fields_case(list_call, answer));
+    if let (b"A1" | b"N1" | b"N2", 0 | 55) = (&call.command, answer.response) {
+        cases.extend(packed_cases(after, list_call, answer));
+    }
     cases
+}
+
+/// The packed values that a call brought: the signs of those that are stored, and a digit where a sign should be.
+fn packed_cases(after: &Machine, list_call: &ListCall, answer: &Answer) -> Vec<String> {
+    let definition = &after.state.definition;
+    let Some(index) = definition.file_index(list_call.call.file) else {
+        return Vec::new();
+    };
+    let file = &definition.files[index];
+    let elements = fields::elements(file, &list_call.format).unwrap_or_default();
+    let mut cases = Vec::new();
+    for (field, value) in fields::values(file, &elements, &list_call.record) {
+        let (b'P', Some((last, before))) = (file.fields[field].format, value.split_last()) else {
+            continue;
+        };
+        let sign = last & 0x0F;
+        let is_zero = last >> 4 == 0 && before.iter().all(|byte| *byte == 0);
+        match answer.response {
+            0 => cases.push(sign_case(is_zero, sign)),
+            _ if sign < 0x0A => cases.push(format!("{sign} in a packed sign's place")),
+            _ => {}
+        }
+        if answer.response == 0 && is_stored_otherwise(after, file, field, value) {
+            cases.push("packed bytes of another record, stored otherwise".to_string());
+        }
+    }
+    cases
+}
+
+/// Whether a unique value was brought that a record has byte for byte, in no stored form: it is not taken.
+fn is_stored_otherwise(after: &Machine, file: &File, field: usize, value: &[u8]) -> bool {
+    let records = after.records();
+    let mut of_file = records
+        .iter()
+        .filter(|((number, _), _)| *number == file.number);
+    file.fields[field].is_unique()
+        && fields::stored_form(&file.fields[field], value) != value
+        && of_file.any(|(_, content)| content[file.field_range(field)] == *value)
 }
 
 /// A format buffer that names nothing, or has a period of its own behind its names.

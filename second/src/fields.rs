@@ -35,14 +35,14 @@ pub fn is_allowed(field: &Field, value: &[u8]) -> bool {
     }
 }
 
-/// "Two digits a byte, the last half byte a sign: C or F positive, D negative."
+/// "Two digits a byte, the last half byte a sign"; "A, C, E and F are now positive, B and D negative" (document 02, No. 2).
 fn is_allowed_packed(value: &[u8]) -> bool {
     let Some((last, before)) = value.split_last() else {
         return false;
     };
     before.iter().all(|byte| byte >> 4 <= 9 && byte & 0x0F <= 9)
         && last >> 4 <= 9
-        && matches!(last & 0x0F, 0x0C | 0x0D | 0x0F)
+        && last & 0x0F >= 0x0A
 }
 
 /// The stored form of an allowed value.
@@ -60,7 +60,7 @@ fn stored_packed(value: &[u8]) -> Vec<u8> {
         return stored;
     };
     let is_zero = before.iter().all(|byte| *byte == 0) && *last >> 4 == 0;
-    let is_negative = *last & 0x0F == 0x0D;
+    let is_negative = matches!(*last & 0x0F, 0x0B | 0x0D);
     let sign = if is_negative && !is_zero { 0x0D } else { 0x0F };
     *last = (*last & 0xF0) | sign;
     stored

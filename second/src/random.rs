@@ -400,9 +400,9 @@ fn value(random: &mut Random, field: &Field) -> Vec<u8> {
             value[last] = random.pick(b"00001112229A/:");
         }
         _ => {
-            value[last] = random.pick(&[0x0C, 0x0D, 0x0F, 0x1C, 0x1D, 0x1F, 0x1F, 0x2C]);
+            value[last] = random.pick(&[0x00, 0x10, 0x10, 0x20]) + random.between(0xA, 0xF) as u8;
             if random.once_in(25) {
-                value[last] = random.pick(&[0x1A, 0x1B, 0x1E, 0x10, 0xAF]);
+                value[last] = random.pick(&[0x10, 0x19, 0xAF]);
             }
             if last > 0 && random.once_in(40) {
                 value[0] = random.pick(&[0x0A, 0xA0]);

@@ -407,6 +407,29 @@ fn lent_store_bytes_are_returned_as_they_are() {
     );
 }
 
+/// "55 is then given only for the half bytes 0 to 9 in the sign's place or a bad digit."
+#[test]
+fn no_digit_is_a_sign() {
+    let table = table(&[file(1, 2), field(b"PA", 1, b'P', b' ')]);
+    for digit in 0..=9 {
+        Bench::new(&table, 4).run(&format!("N1 format=PA. record=5{digit} -> 55 0 0 0"));
+    }
+}
+
+/// "Uniqueness still compares with the stored bytes as they are": a lent X'5B' is not the stored X'5D'.
+#[test]
+fn a_lent_sign_is_compared_as_it_is() {
+    let table = table(&[file(1, 3), field(b"PA", 1, b'P', b'U')]);
+    let mut bench = Bench::new(&table, 4);
+    bench.machine.store[..2].copy_from_slice(&[1, 0x5B]);
+    bench.run(
+        "N2 isn=2 format=PA. record=5B -> 0 2 0 0
+         N2 isn=3 format=PA. record=5B -> 198 0 0 0
+         L1 isn=1 format=PA. length=1 -> 0 1 1 0 5B
+         L1 isn=2 format=PA. length=1 -> 0 2 1 0 5D",
+    );
+}
+
 /// Any first byte but 1 is no record; a back-out sets 0 there, or 1 with the image.
 #[test]
 fn first_bytes() {

@@ -326,9 +326,9 @@ row! { r53_not:
 // 55: A1, N1, N2: a digit or sign not allowed
 
 /// Values of DA and PA together, each with one bad half byte or byte.
-const BAD_VALUES: [&str; 12] = [
+const BAD_VALUES: [&str; 10] = [
     "2F30000F", "303A000F", "3020000F", "3041000F", "B030000F", "3030A00F", "30300A0F", "303000AF",
-    "3030000A", "3030000B", "3030000E", "30300009",
+    "30300000", "30300009",
 ];
 
 fn check_values(prefix: &str) {
@@ -342,6 +342,10 @@ fn check_values(prefix: &str) {
         ("3039000C", "3039000F"),
         ("3930123D", "3930123D"),
         ("3030998F", "3030998F"),
+        ("3030123A", "3030123F"),
+        ("3030123B", "3030123D"),
+        ("3030123E", "3030123F"),
+        ("3030000B", "3030000F"),
     ] {
         let isn = if prefix.contains("isn=1") { 1 } else { 2 };
         bench().run(&format!(
@@ -359,7 +363,7 @@ each_command! { r55, check_values:
 }
 
 row! { r55_not:
-    fields_not_named "N1 file=2 format=BA. record=FF3A000A -> 0 1 0 0";
+    fields_not_named "N1 file=2 format=BA. record=FF3A0009 -> 0 1 0 0";
     reading "N1 file=2 format=BA. record=01 -> 0 1 0 0
              L1 file=2 isn=1 format=DA,PA. record=FFFFFFFF -> 0 1 4 0 3030000F";
     formats_a_and_b "N1 format=AA,AB. record=00FFFF -> 0 1 0 0

@@ -13,15 +13,15 @@ use Rattle.definition.specs.declared.Format.the-variants.{Alphanumeric, Binary,
 abbrev pub unpacked-digit : ℕ → Bool
 unpacked-digit b = within 0x30 0x39 b
 
--- ---- "Packed: two digits a byte, the last half byte a sign: C or F positive, D negative"
+-- ---- "Packed: two digits a byte, the last half byte a sign"; "A, C, E and F are now positive, B and D negative" (document 02, No. 2)
 abbrev pub digit : ℕ → Bool
 digit h = leb h 9
 
 abbrev pub positive-sign : ℕ → Bool
-positive-sign h = eqb h 0xC || eqb h 0xF
+positive-sign h = eqb h 0xA || eqb h 0xC || eqb h 0xE || eqb h 0xF
 
 abbrev pub negative-sign : ℕ → Bool
-negative-sign h = eqb h 0xD
+negative-sign h = eqb h 0xB || eqb h 0xD
 
 -- the two half bytes of each byte
 abbrev pub halves : List ℕ → List ℕ

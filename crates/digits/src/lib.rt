@@ -14,9 +14,7 @@ fn is_sign(half: u8) -> bool
     ensures { λ r. ⌜ r ≡ (positive-sign half || negative-sign half) ⌝ }
 {
     match half {
-        0xC => true,
-        0xD => true,
-        0xF => true,
+        0xA..=0xF => true,
         _ => false,
     }
 }

@@ -1,17 +1,17 @@
 -- What the loop that makes the table goes by, and what the table holds at a place.
 -- Assumes nothing.
 use Prim.Native.Nat.{ℕ, zero, suc, _+_, _<_}
-use native.Mathlib.Nat.{not-suc-le-zero, le-of-suc-le-suc, add-zero, zero-add}
+use native.Mathlib.Nat.{zero-add}
 use native.Mathlib.Omega.{arith}
 use mathlib.Core.Path.{_≡_, refl, sym, ap, _∙_}
 use mathlib.Core.Bool.{false}
-use mathlib.Core.List.{List, [], _∷_, map}
+use mathlib.Core.List.{List, [], _∷_}
 use lib.Dec.{eqb}
 use lib.ListN.{length, getD, set, replicate, length-set, length-map}
 use lib.Seq.{ext-getD, getD-set-same, getD-set-other}
 use borrow.Author.Tests.{eqb-true, eqb-false}
 use Rattle.lists.specs.Tests.{within, within-above, Outcome, holds, fails, outcome}
-use Rattle.lists.specs.Numbers.{numbers}
+use Rattle.lists.specs.Numbers.{numbers, at-number}
 use Rattle.definition.specs.declared.File.{File}
 use Rattle.entry_tables.specs.Tables.{highest-isn, highest-in}
 
@@ -21,12 +21,6 @@ within-nothing zero = refl
 within-nothing (suc n) = within-above 1 0 (suc n) (omega arith)
 
 -- ---- the table of highest ISNs
--- what a function makes of numbers in a row
-at-number : {B : Type 0} (f : ℕ → B) (n k i : ℕ) (d : B) → i < n → getD (map f (numbers n k)) i d ≡ f (k + i)
-at-number f zero k i d h = absurd (not-suc-le-zero h)
-at-number f (suc n) k zero d h = rw (add-zero k)
-at-number f (suc n) k (suc i) d h = at-number f n (k + 1) i d (le-of-suc-le-suc h) ∙ ap f (omega arith)
-
 length-numbers : (n k : ℕ) → length (numbers n k) ≡ n
 length-numbers zero k = refl
 length-numbers (suc n) k = ap suc (length-numbers n (k + 1))

@@ -55,8 +55,9 @@ record Written : Type 0 where
 
 writes : List Written
 writes =
-    -- stored with F; in the buffer's order, and not the record's; a zero always with F
+    -- stored with F; with D; in the buffer's order, and not the record's; a zero always with F
     record { format = only-ab; values = 0x12 ∷ 0x3C ∷ []; good = true; after = 0x20 ∷ 0x20 ∷ 0x12 ∷ 0x3F ∷ 0x30 ∷ [] } ∷
+    record { format = only-ab; values = 0x12 ∷ 0x3B ∷ []; good = true; after = 0x20 ∷ 0x20 ∷ 0x12 ∷ 0x3D ∷ 0x30 ∷ [] } ∷
     record { format = ab-aa; values = 0x12 ∷ 0x3D ∷ 0x58 ∷ 0x59 ∷ []; good = true; after = 0x58 ∷ 0x59 ∷ 0x12 ∷ 0x3D ∷ 0x30 ∷ [] } ∷
     record { format = ac-ab; values = 0x37 ∷ 0x00 ∷ 0x0D ∷ []; good = true; after = 0x20 ∷ 0x20 ∷ 0x00 ∷ 0x0F ∷ 0x37 ∷ [] } ∷
     -- more values than are named; too few
@@ -64,7 +65,7 @@ writes =
     record { format = ab-aa; values = 0x12 ∷ 0x3C ∷ 0x58 ∷ []; good = false; after = nulled } ∷
     -- a digit that is not allowed, a sign that is not allowed in the second value: `allowed` is asked before anything is written
     record { format = ac-ab; values = 0x3A ∷ 0x12 ∷ 0x3C ∷ []; good = false; after = 0x20 ∷ 0x20 ∷ 0x12 ∷ 0x3F ∷ 0x3A ∷ [] } ∷
-    record { format = ac-ab; values = 0x31 ∷ 0x12 ∷ 0x3B ∷ []; good = false; after = 0x20 ∷ 0x20 ∷ 0x12 ∷ 0x3F ∷ 0x31 ∷ [] } ∷ []
+    record { format = ac-ab; values = 0x31 ∷ 0x12 ∷ 0x39 ∷ []; good = false; after = 0x20 ∷ 0x20 ∷ 0x12 ∷ 0x3F ∷ 0x31 ∷ [] } ∷ []
 
 written : Written → Written
 written r = record {

@@ -1,11 +1,13 @@
 -- The numbers from one to another.
 -- Assumes nothing.
-use mathlib.Core.Path.{_≡_, refl}
+use mathlib.Core.Path.{_≡_, refl, sym, ap, _∙_}
 use mathlib.Core.Bool.{Bool, true}
-use mathlib.Core.List.{List, [], _∷_}
+use mathlib.Core.List.{List, [], _∷_, map}
 use Prim.Native.Nat.{ℕ, zero, suc, _+_, _-_, _≤_, _<_}
+use native.Mathlib.Nat.{not-suc-le-zero, le-of-suc-le-suc, add-zero, zero-add}
 use native.Mathlib.Omega.{arith}
 use lib.Dec.{eqb}
+use lib.ListN.{getD}
 use borrow.Author.Tests.{eqb-false}
 use Rattle.lists.specs.Tests.{Outcome, holds, fails, outcome}
 use Rattle.lists.specs.Folds.{all, any, Each}
@@ -49,3 +51,13 @@ in-numbers (suc n) k m a b = go (outcome (eqb m k)) (λ h. in-numbers n (k + 1) 
 pub all-numbers : (p : ℕ → Bool) (n k : ℕ) → ((m : ℕ) → k ≤ m → m < k + n → p m ≡ true) → all p (numbers n k) ≡ true
 all-numbers p zero k h = refl
 all-numbers p (suc n) k h = rw (h k (omega arith) (omega arith)) (all-numbers p n (k + 1) (λ m a b. h m (omega arith) (omega arith)))
+
+-- what a function makes of numbers in a row
+pub at-number : {B : Type 0} (f : ℕ → B) (n k i : ℕ) (d : B) → i < n → getD (map f (numbers n k)) i d ≡ f (k + i)
+at-number f zero k i d h = absurd (not-suc-le-zero h)
+at-number f (suc n) k zero d h = rw (add-zero k)
+at-number f (suc n) k (suc i) d h = at-number f n (k + 1) i d (le-of-suc-le-suc h) ∙ ap f (omega arith)
+
+-- functions that make the same of all numbers below n, which one check of both rows shows, make the same of each
+pub same-below : {B : Type 0} (f g : ℕ → B) (n : ℕ) → map f (numbers n 0) ≡ map g (numbers n 0) → (m : ℕ) → m < n → f m ≡ g m
+same-below f g n e m h = rw (zero-add m) at (sym (at-number f n 0 m (f 0) h) ∙ ap (λ row. getD row m (f 0)) e ∙ at-number g n 0 m (f 0) h)

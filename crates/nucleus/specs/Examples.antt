@@ -100,6 +100,10 @@ two-table = 0x01 ∷ 0x01 ∷ 0x00 ∷ 0x02 ∷ 0x02 ∷ 0x52 ∷ 0x43 ∷ 0x01 
 packed-table : List ℕ
 packed-table = 0x01 ∷ 0x01 ∷ 0x00 ∷ 0x03 ∷ 0x02 ∷ 0x50 ∷ 0x41 ∷ 0x02 ∷ 0x50 ∷ 0x55 ∷ 0x00 ∷ []
 
+-- a file of highest ISN 4 with one field, PB, packed, one byte, of an option
+abbrev amount-table : ℕ → List ℕ
+amount-table option = 0x01 ∷ 0x01 ∷ 0x00 ∷ 0x04 ∷ 0x02 ∷ 0x50 ∷ 0x42 ∷ 0x01 ∷ 0x50 ∷ option ∷ 0x00 ∷ []
+
 -- user 1 empties a record, and user 2 asks for its unique value before and after the ET of user 1
 given-up-calls : List Given
 given-up-calls =
@@ -202,6 +206,27 @@ packed-calls =
     sent "N1" blank 1 0 0 (text "PA.") (0x00 ∷ 0x0D ∷ []) ∷
     sent "A1" blank 1 1 0 (text "PA.") (0x00 ∷ 0x0C ∷ []) ∷ []
 
+-- 5 with signs A, B and E, 0 with B, and 5 with a digit in the sign's place; what is stored
+signs-calls : List Given
+signs-calls =
+    sent "N1" blank 1 0 0 (text "PB.") (0x5A ∷ []) ∷
+    sent "N1" blank 1 0 0 (text "PB.") (0x5B ∷ []) ∷
+    sent "N1" blank 1 0 0 (text "PB.") (0x5E ∷ []) ∷
+    sent "N1" blank 1 0 0 (text "PB.") (0x0B ∷ []) ∷
+    sent "N1" blank 1 0 0 (text "PB.") (0x59 ∷ []) ∷
+    sent "L1" blank 1 1 0 (text "PB.") (0 ∷ []) ∷
+    sent "L1" blank 1 2 0 (text "PB.") (0 ∷ []) ∷
+    sent "L1" blank 1 3 0 (text "PB.") (0 ∷ []) ∷
+    sent "L1" blank 1 4 0 (text "PB.") (0 ∷ []) ∷ []
+
+-- 5 with sign B twice, beside a record that has it as it was lent
+beside-lent-calls : List Given
+beside-lent-calls =
+    sent "N2" blank 1 2 0 (text "PB.") (0x5B ∷ []) ∷
+    sent "N2" blank 1 3 0 (text "PB.") (0x5B ∷ []) ∷
+    sent "L1" blank 1 1 0 (text "PB.") (0 ∷ []) ∷
+    sent "L1" blank 1 2 0 (text "PB.") (0 ∷ []) ∷ []
+
 -- entries dropped one by one and together, an option that is not named, 41 before 44, and the bytes of L4 and RE
 assorted-calls : List Given
 assorted-calls =
@@ -228,6 +253,10 @@ doubled-store = 1 ∷ text "2AB" ++ 1 ∷ text "2CD" ++ replicate 8 0
 -- record 1 is a packed 1 with sign C, which is not its stored form
 unstored-store : List ℕ
 unstored-store = 1 ∷ 0x00 ∷ 0x1C ∷ replicate 13 0
+
+-- record 1 is a packed 5 with sign B, which is not its stored form
+lent-store : List ℕ
+lent-store = 1 ∷ 0x5B ∷ replicate 14 0
 
 -- ISN 1 is held by a user; user 1 is in a transaction, or not
 abbrev held-entry : ℕ → Entry
@@ -281,6 +310,18 @@ rows =
     record {
       computed = printed one-table emptied-calls;
       expected = text "0 1 0 0" ∷ text "0 0 1 1" ∷ text "0 1 0 0" ∷ text "75 0 0 0" ∷ text "75 0 0 0" ∷ text "0 0 1 2" ∷ text "0 1 0 0" ∷ [];
+    } ∷
+    -- document 02, No. 2: "A, C, E and F are now positive, B and D negative"; "The stored form is as before"; "55 is then given only for the half
+    -- bytes 0 to 9 in the sign's place"
+    record {
+      computed = printed (amount-table blank) signs-calls;
+      expected =
+          text "0 1 0 0" ∷ text "0 2 0 0" ∷ text "0 3 0 0" ∷ text "0 4 0 0" ∷ text "55 0 0 0" ∷ text "0 1 1 0 5F" ∷ text "0 2 1 0 5D" ∷ text "0 3 1 0 5F" ∷ text "0 4 1 0 0F" ∷ [];
+    } ∷
+    -- "Uniqueness still compares with the stored bytes as they are"
+    record {
+      computed = printed-on (with-store lent-store) (amount-table 0x55) beside-lent-calls;
+      expected = text "0 2 0 0" ∷ text "198 0 0 0" ∷ text "0 1 1 0 5B" ∷ text "0 2 1 0 5D" ∷ [];
     } ∷
     -- document 02, No. 3: "a run with only the mark's ISN free gives it, then 75"
     record {
@@ -354,5 +395,5 @@ named-options = refl
 
 -- a `refl` for each row: one for all rows computes several times as long
 computed-as-expected : Each (λ r. r .computed ≡ r .expected) rows
-unfolding assorted-calls doubled-store house-table house-calls one-table two-table packed-table given-up-calls changed-twice-calls emptied-calls going-round-calls hold-only-calls no-fields-calls changed-after-calls nulls-calls no-buffer-calls packed-calls unstored-store rows record-length field-offset file-offset store-size image-length place valid file-valid field-valid name-valid format-of option-of file-item field-item item-of read-from read-table stored below-zero allowed null-value field-named format-valid element places named-twice length-needed needed-within fits read-fields write-fields values-allowed null-record slot-fits has-record get shown lowest elsewhere put-record empty fresh file-part with-part pack-of unpack-of entries holder held-by repeated append change closed remove-queue remove-images remove-count image-has keep-image settled first-change-queue first-change-images put-back-in put-back restore command-of has-option too-short well-made removed backed-out clocked target rows-usable rows-understood is-overdue session-in-transaction access-refused file-unknown isn-invalid format-refused field-twice record-length-refused value-refused none-found held-elsewhere presence-refused not-held release-refused file-full limit-reached queue-full new-record value-taken held imaged written erased effect-at admitted-session admitted-user admitted perform step set-up decimal line-of
-computed-as-expected = (refl, (refl, (refl, (refl, (refl, (refl, (refl, (refl, (refl, (refl, (refl, (refl, (refl, (refl, (refl, (refl, (refl, (refl, (refl, (refl, (refl, (refl, (refl, tt)))))))))))))))))))))))
+unfolding assorted-calls doubled-store house-table house-calls one-table two-table packed-table given-up-calls changed-twice-calls emptied-calls going-round-calls hold-only-calls no-fields-calls changed-after-calls nulls-calls no-buffer-calls packed-calls signs-calls beside-lent-calls unstored-store lent-store rows record-length field-offset file-offset store-size image-length place valid file-valid field-valid name-valid format-of option-of file-item field-item item-of read-from read-table stored below-zero allowed null-value field-named format-valid element places named-twice length-needed needed-within fits read-fields write-fields values-allowed null-record slot-fits has-record get shown lowest elsewhere put-record empty fresh file-part with-part pack-of unpack-of entries holder held-by repeated append change closed remove-queue remove-images remove-count image-has keep-image settled first-change-queue first-change-images put-back-in put-back restore command-of has-option too-short well-made removed backed-out clocked target rows-usable rows-understood is-overdue session-in-transaction access-refused file-unknown isn-invalid format-refused field-twice record-length-refused value-refused none-found held-elsewhere presence-refused not-held release-refused file-full limit-reached queue-full new-record value-taken held imaged written erased effect-at admitted-session admitted-user admitted perform step set-up decimal line-of
+computed-as-expected = (refl, (refl, (refl, (refl, (refl, (refl, (refl, (refl, (refl, (refl, (refl, (refl, (refl, (refl, (refl, (refl, (refl, (refl, (refl, (refl, (refl, (refl, (refl, (refl, (refl, tt)))))))))))))))))))))))))

@@ -120,8 +120,9 @@ fn update() {
     );
     put(f, b"AA,AB.", b"1234    \x02\x0C", &mut content);
     get(f, b"AA,AB,AC.", &content);
-    // 'Packed Value Signs': a sign that document 01 has not.
-    put(f, b"AB.", &[0x12, 0x3A], &mut content);
+    // 'Packed Value Signs': a sign that document 02 brings, and a half byte that is none.
+    put(f, b"AB.", &[0x12, 0x3B], &mut content);
+    put(f, b"AB.", &[0x12, 0x39], &mut content);
 }
 
 // Document 01, 'Marked for proof': packed values of three bytes and their stored form.

@@ -24,7 +24,8 @@ plus n = record { negative = false; magnitude = n }
 minus : ℕ → Decimal
 minus n = record { negative = true; magnitude = n }
 
--- "X'00500C' stored X'00500F'; X'00000D' stored X'00000F'" (document 01, 'Marked for proof'); then each sign; bad signs; bad digits
+-- "X'00500C' stored X'00500F'; X'00000D' stored X'00000F'" (document 01, 'Marked for proof'); signs of document 01; those of document 02, No. 2, and
+-- zeros with them; half bytes that are no signs; bad digits
 packed : List Row
 packed =
     record { format = Packed; given = 0x00 ∷ 0x50 ∷ 0x0C ∷ []; good = true; form = 0x00 ∷ 0x50 ∷ 0x0F ∷ []; number = plus 500 } ∷
@@ -36,15 +37,21 @@ packed =
     record { format = Packed; given = 0x5D ∷ []; good = true; form = 0x5D ∷ []; number = minus 5 } ∷
     record { format = Packed; given = 0x0D ∷ []; good = true; form = 0x0F ∷ []; number = plus 0 } ∷
     record { format = Packed; given = 0x99 ∷ 0x9C ∷ []; good = true; form = 0x99 ∷ 0x9F ∷ []; number = plus 999 } ∷
-    record { format = Packed; given = 0x1A ∷ []; good = false; form = 0x1F ∷ []; number = plus 1 } ∷
-    record { format = Packed; given = 0x1B ∷ []; good = false; form = 0x1F ∷ []; number = plus 1 } ∷
-    record { format = Packed; given = 0x1E ∷ []; good = false; form = 0x1F ∷ []; number = plus 1 } ∷
-    record { format = Packed; given = 0x19 ∷ []; good = false; form = 0x1F ∷ []; number = plus 1 } ∷
-    record { format = Packed; given = 0x10 ∷ []; good = false; form = 0x1F ∷ []; number = plus 1 } ∷
+    record { format = Packed; given = 0x5A ∷ []; good = true; form = 0x5F ∷ []; number = plus 5 } ∷
+    record { format = Packed; given = 0x5B ∷ []; good = true; form = 0x5D ∷ []; number = minus 5 } ∷
+    record { format = Packed; given = 0x5E ∷ []; good = true; form = 0x5F ∷ []; number = plus 5 } ∷
+    record { format = Packed; given = 0x10 ∷ 0x0B ∷ []; good = true; form = 0x10 ∷ 0x0D ∷ []; number = minus 100 } ∷
+    record { format = Packed; given = 0x0B ∷ []; good = true; form = 0x0F ∷ []; number = plus 0 } ∷
+    record { format = Packed; given = 0x00 ∷ 0x00 ∷ 0x0B ∷ []; good = true; form = 0x00 ∷ 0x00 ∷ 0x0F ∷ []; number = plus 0 } ∷
+    record { format = Packed; given = 0x00 ∷ 0x0A ∷ []; good = true; form = 0x00 ∷ 0x0F ∷ []; number = plus 0 } ∷
+    record { format = Packed; given = 0x59 ∷ []; good = false; form = 0x5F ∷ []; number = plus 5 } ∷
+    record { format = Packed; given = 0x50 ∷ []; good = false; form = 0x5F ∷ []; number = plus 5 } ∷
+    record { format = Packed; given = 0xA1 ∷ 0x2B ∷ []; good = false; form = 0xA1 ∷ 0x2D ∷ []; number = minus 12 } ∷
     record { format = Packed; given = 0xA1 ∷ 0x2D ∷ []; good = false; form = 0xA1 ∷ 0x2D ∷ []; number = minus 12 } ∷
     record { format = Packed; given = 0x1A ∷ 0x2D ∷ []; good = false; form = 0x1A ∷ 0x2D ∷ []; number = minus 102 } ∷
     record { format = Packed; given = 0x12 ∷ 0xAC ∷ []; good = false; form = 0x12 ∷ 0xAF ∷ []; number = plus 120 } ∷
     record { format = Packed; given = 0x0A ∷ 0x0D ∷ []; good = false; form = 0x0A ∷ 0x0D ∷ []; number = plus 0 } ∷
+    record { format = Packed; given = 0x0A ∷ 0x0B ∷ []; good = false; form = 0x0A ∷ 0x0D ∷ []; number = plus 0 } ∷
     record { format = Packed; given = []; good = false; form = []; number = plus 0 } ∷ []
 
 others : List Row

@@ -1,5 +1,5 @@
--- What callers may use of the definitions of `Values`: lengths; the stored form is allowed, stays as it is and means the same number; a null
--- value is allowed and in stored form.
+-- What callers may use of the definitions of `Values`: lengths; the stored form is allowed, stays as it is and means the same number, and goes by
+-- what the sign means; a null value is allowed and in stored form.
 -- Assumes nothing.
 use Prim.Native.Nat.{ℕ, zero, suc, _-_, _+_, _*_, _/_, _%_, _≤_, _<_}
 use mathlib.Core.Path.{_≡_, refl, _∙_}
@@ -136,6 +136,31 @@ module _ (v : List ℕ) (h : 1 ≤ length v) where
         digits-stored,
         sign-means (negative-sign (sign v)) (any not-zero (digits v)) (number-after 0 (map digit-value (digits v))) (number-zero (digits v)),
       )
+
+-- ---- a sign counts by its meaning alone: where two are both negative, or neither is, bytes with the one and with the other have one stored form
+-- and mean one number
+module _ (s t : ℕ) (j : s < 16) (k : t < 16) (same : negative-sign s ≡ negative-sign t) where
+  module _ (v : List ℕ) (h : 1 ≤ length v) where
+    below-alike : below-zero (with-sign v s) ≡ below-zero (with-sign v t)
+    unfolding below-zero
+    below-alike = rw (sign-with-sign v s h j, sign-with-sign v t h k, digits-with-sign v s h j, digits-with-sign v t h k, same)
+
+    packed-alike : stored Packed (with-sign v s) ≡ stored Packed (with-sign v t)
+    unfolding stored
+    packed-alike =
+        rw (with-sign-twice v s h j (stored-sign (with-sign v s)), with-sign-twice v t h k (stored-sign (with-sign v t)), below-alike)
+
+    means-alike : decimal Packed (with-sign v s) ≡ decimal Packed (with-sign v t)
+    unfolding decimal
+    means-alike = rw (sign-with-sign v s h j, sign-with-sign v t h k, digits-with-sign v s h j, digits-with-sign v t h k, same)
+
+  pub signs-stored : (v : List ℕ) → stored Packed (with-sign v s) ≡ stored Packed (with-sign v t)
+  signs-stored [] = refl
+  signs-stored (b ∷ bs) = packed-alike (b ∷ bs) (omega arith)
+
+  pub signs-decimal : (v : List ℕ) → decimal Packed (with-sign v s) ≡ decimal Packed (with-sign v t)
+  signs-decimal [] = refl
+  signs-decimal (b ∷ bs) = means-alike (b ∷ bs) (omega arith)
 
 -- ---- the stored form of an allowed value is allowed
 pub stored-allowed : (f : Format) (v : List ℕ) → allowed f v ≡ true → allowed f (stored f v) ≡ true

@@ -45,7 +45,8 @@ null-value Binary n = replicate n (null-byte Binary)
 null-value Unpacked n = replicate n (null-byte Unpacked)
 null-value Packed n = set (replicate n (null-byte Packed)) (n - 1) 0x0F
 
--- ---- "read as a number, a bad digit is 0 and any sign but D positive"; a zero is not negative. `A` and `B` mean no number
+-- ---- "read as a number, a bad digit is 0 and any sign but" B or "D positive" (document 02, No. 2: "in lent stored bytes too"); a zero is not
+-- negative. `A` and `B` mean no number
 pub record Decimal : Type 0 where
   pub negative : Bool
   pub magnitude : ℕ

@@ -17,7 +17,7 @@ const NEGATIVE: u8 = 0xD;
 fn negative_sign(half: u8) -> bool
     ensures { λ r. ⌜ r ≡ negative-sign half ⌝ }
 {
-    half == 0xD
+    half == 0xB || half == 0xD
 }
 
 // Whether a half byte is not zero.

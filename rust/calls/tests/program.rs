@@ -91,6 +91,7 @@ fn the_saved_lists_are_as_expected() {
         "two-kitchens",
         "going-round",
         "no-fields",
+        "packed-signs",
         "command-reference-1",
     ];
     let mut files = vec![VECTORS.to_string()];

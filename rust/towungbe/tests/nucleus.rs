@@ -220,3 +220,24 @@ fn a_state_that_is_not_well_made_gets_12() {
         assert_eq!(state, spoilt, "all is left as it was");
     }
 }
+
+/// A lent X'5B' counts as it is, while what a call brings is stored with D.
+#[test]
+fn a_lent_sign_is_compared_as_it_is() {
+    // Highest ISN 3: PB, packed, one byte, unique.
+    let table = b"\x01\x01\x00\x03\x02PB\x01PU\x00";
+    let mut state = *Nucleus::new(table, 4).expect("a good table").state();
+    let mut store = [1, 0x5B, 0, 0, 0, 0];
+    let (mut queue, mut images) = ([Entry::default(); 4], [0; 4]);
+    for (isn, response) in [(2, 0), (3, 198)] {
+        let lent = Lent {
+            store: &mut store,
+            queue: &mut queue,
+            images: &mut images,
+        };
+        let mut block = Block::from(Call::new(Command::N2, 1).with_file(1).with_isn(isn));
+        let said = raw::call(&mut state, &mut block, 4, lent, b"PB.", &mut [0x5B]);
+        assert_eq!(said, response, "ISN {isn}");
+    }
+    assert_eq!(store, [1, 0x5B, 1, 0x5D, 0, 0]);
+}
