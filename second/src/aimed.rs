@@ -39,11 +39,10 @@ const RARE: [(u64, Aim); 2] = [(3, take_unstored), (2, take_from_image)];
 /// A call aimed at one of the rules; none where the nucleus had nothing for a few of them.
 pub fn call(random: &mut Random, machine: &Machine) -> Option<ListCall> {
     for (times, aim) in RARE {
-        if !random.once_in(times) {
-            continue;
-        }
-        if let Some(list_call) = aim(random, machine) {
-            return Some(list_call);
+        if random.once_in(times) {
+            if let Some(list_call) = aim(random, machine) {
+                return Some(list_call);
+            }
         }
     }
     let aims: Vec<Aim> = AIMS

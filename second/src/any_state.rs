@@ -145,7 +145,7 @@ fn hold_some(random: &mut Random, machine: &mut Machine) {
 }
 
 /// Lets two ISNs of a file have the same record, so that each unique value in it is there twice; in a file that has
-/// unique fields and others, if any. Some packed values in it are as a call brings them, few of these in stored form.
+/// unique fields and others, if any.
 fn double_record(random: &mut Random, machine: &mut Machine) {
     let definition = &machine.state.definition;
     let is_mixed = |index: &usize| {
@@ -167,6 +167,7 @@ fn double_record(random: &mut Random, machine: &mut Machine) {
     }
 }
 
+/// Lets some packed values of a record be as a call brings them, few of these in stored form.
 fn bring_packed(random: &mut Random, file: &File, content: &mut [u8]) {
     for field in 0..file.used_fields().len() {
         if file.fields[field].format == b'P' && random.once_in(2) {

@@ -49,7 +49,8 @@ const OPTIONS: [u8; 4] = *b" IHA";
 /// The half bytes that are signs.
 const SIGNS: std::ops::RangeInclusive<u8> = 0xA..=0xF;
 
-/// All cases: those of single rules, each packed sign of a zero and of another number, and each command with each option.
+/// All cases: those of single rules, each packed sign of a zero and of another number, and each command with each
+/// option.
 pub fn all() -> Vec<String> {
     let mut all = RULES.map(str::to_string).to_vec();
     for sign in SIGNS {

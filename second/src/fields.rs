@@ -35,7 +35,8 @@ pub fn is_allowed(field: &Field, value: &[u8]) -> bool {
     }
 }
 
-/// "Two digits a byte, the last half byte a sign"; "A, C, E and F are now positive, B and D negative" (document 02, No. 2).
+/// "Two digits a byte, the last half byte a sign"; "A, C, E and F are now positive, B and D negative" (document 02,
+/// No. 2).
 fn is_allowed_packed(value: &[u8]) -> bool {
     let Some((last, before)) = value.split_last() else {
         return false;
