@@ -100,7 +100,7 @@ two-table = 0x01 ∷ 0x01 ∷ 0x00 ∷ 0x02 ∷ 0x02 ∷ 0x52 ∷ 0x43 ∷ 0x01 
 packed-table : List ℕ
 packed-table = 0x01 ∷ 0x01 ∷ 0x00 ∷ 0x03 ∷ 0x02 ∷ 0x50 ∷ 0x41 ∷ 0x02 ∷ 0x50 ∷ 0x55 ∷ 0x00 ∷ []
 
--- a file of highest ISN 4 with one field, PB, packed, one byte, of an option
+-- a file of highest ISN 4 with one field, PB, packed, one byte, with an option byte
 abbrev amount-table : ℕ → List ℕ
 amount-table option = 0x01 ∷ 0x01 ∷ 0x00 ∷ 0x04 ∷ 0x02 ∷ 0x50 ∷ 0x42 ∷ 0x01 ∷ 0x50 ∷ option ∷ 0x00 ∷ []
 
@@ -314,7 +314,7 @@ rows =
     -- document 02, No. 2: "A, C, E and F are now positive, B and D negative"; "The stored form is as before"; "55 is then given only for the half
     -- bytes 0 to 9 in the sign's place"
     record {
-      computed = printed (amount-table blank) signs-calls;
+      computed = printed (amount-table 0x20) signs-calls;
       expected =
           text "0 1 0 0" ∷ text "0 2 0 0" ∷ text "0 3 0 0" ∷ text "0 4 0 0" ∷ text "55 0 0 0" ∷ text "0 1 1 0 5F" ∷ text "0 2 1 0 5D" ∷ text "0 3 1 0 5F" ∷ text "0 4 1 0 0F" ∷ [];
     } ∷

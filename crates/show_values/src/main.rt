@@ -1,5 +1,5 @@
-// Shows what `values` gives on packed values of the Command Reference ('Packed Value Signs') and of document 01: each value in hexadecimal, and
-// behind it its stored form, or 55 where it is not allowed. The gate holds what is printed to the file stdout.
+// Shows what `values` gives on packed values of the Command Reference ('Packed Value Signs') and of documents 01 and 02: each value in hexadecimal,
+// and behind it its stored form, or 55 where it is not allowed. The gate holds what is printed to the file stdout.
 use definition::Format;
 
 fn show_packed(value: &[u8]) {
