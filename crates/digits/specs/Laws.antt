@@ -4,7 +4,7 @@
 use Prim.Native.Nat.{ℕ, _/_, _<_}
 use native.Mathlib.Omega.{arith}
 use mathlib.Core.Path.{_≡_, refl}
-use mathlib.Core.Bool.{Bool, true, false, not, _&&_, _||_, and-true}
+use mathlib.Core.Bool.{Bool, true, not, _&&_, _||_, and-true}
 use mathlib.Core.List.{List, [], _∷_}
 use Rattle.lists.specs.Tests.{within}
 use Rattle.lists.specs.Folds.{all, all-append}
@@ -21,10 +21,6 @@ a-sign h = positive-sign h || negative-sign h
 
 pub sign-is : (h : ℕ) → h < 256 → (positive-sign h || negative-sign h) ≡ within 0xA 0xF h
 sign-is = same-below a-sign (within 0xA 0xF) 256 refl
-
--- a sign is positive or negative, and not both
-pub sign-one : (h : ℕ) → h < 256 → (positive-sign h && negative-sign h) ≡ false
-sign-one = same-below (λ h. positive-sign h && negative-sign h) (λ h. false) 256 refl
 
 sign-no-digit : (h : ℕ) → h < 16 → (positive-sign h || negative-sign h) ≡ not (digit h)
 sign-no-digit = same-below a-sign (λ h. not (digit h)) 16 refl

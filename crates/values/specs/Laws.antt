@@ -2,7 +2,7 @@
 -- what the sign means; a null value is allowed and in stored form.
 -- Assumes nothing.
 use Prim.Native.Nat.{ℕ, zero, suc, _-_, _+_, _*_, _/_, _%_, _≤_, _<_}
-use mathlib.Core.Path.{_≡_, refl, _∙_}
+use mathlib.Core.Path.{_≡_, refl, sym, _∙_}
 use mathlib.Core.Bool.{Bool, true, false, _&&_, _||_, or-false}
 use mathlib.Core.List.{List, [], _∷_, map}
 use native.Mathlib.Nat.{le-refl}
@@ -141,18 +141,20 @@ module _ (v : List ℕ) (h : 1 ≤ length v) where
 -- and mean one number
 module _ (s t : ℕ) (j : s < 16) (k : t < 16) (same : negative-sign s ≡ negative-sign t) where
   module _ (v : List ℕ) (h : 1 ≤ length v) where
-    below-alike : below-zero (with-sign v s) ≡ below-zero (with-sign v t)
-    unfolding below-zero
-    below-alike = rw (sign-with-sign v s h j, sign-with-sign v t h k, digits-with-sign v s h j, digits-with-sign v t h k, same)
+    negative-alike : negative-sign (sign (with-sign v s)) ≡ negative-sign (sign (with-sign v t))
+    negative-alike = rw (sign-with-sign v s h j, sign-with-sign v t h k) same
+
+    digits-alike : digits (with-sign v s) ≡ digits (with-sign v t)
+    digits-alike = digits-with-sign v s h j ∙ sym (digits-with-sign v t h k)
 
     packed-alike : stored Packed (with-sign v s) ≡ stored Packed (with-sign v t)
-    unfolding stored
+    unfolding stored below-zero
     packed-alike =
-        rw (with-sign-twice v s h j (stored-sign (with-sign v s)), with-sign-twice v t h k (stored-sign (with-sign v t)), below-alike)
+        rw (with-sign-twice v s h j (stored-sign (with-sign v s)), with-sign-twice v t h k (stored-sign (with-sign v t)), negative-alike, digits-alike)
 
     means-alike : decimal Packed (with-sign v s) ≡ decimal Packed (with-sign v t)
     unfolding decimal
-    means-alike = rw (sign-with-sign v s h j, sign-with-sign v t h k, digits-with-sign v s h j, digits-with-sign v t h k, same)
+    means-alike = rw (negative-alike, digits-alike)
 
   pub signs-stored : (v : List ℕ) → stored Packed (with-sign v s) ≡ stored Packed (with-sign v t)
   signs-stored [] = refl
