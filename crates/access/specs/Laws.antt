@@ -2,37 +2,42 @@
 -- Assumes nothing.
 use Prim.Native.Nat.{ℕ, _-_}
 use mathlib.Core.Path.{_≡_, refl, ap, _∙_}
-use mathlib.Core.Bool.{true, false, not, _&&_}
+use mathlib.Core.Bool.{true, false, _&&_}
 use mathlib.Core.List.{List}
+use mathlib.Core.Option.{Option, none, some}
 use lib.Dec.{ltb}
 use lib.ListN.{length, getD, set, List·getD-eq-default}
 use lib.Seq.{getD-set-same, set-out}
 use borrow.Author.Tests.{ltb-true, ltb-false}
 use Rattle.definition.specs.declared.Definition.{Definition}
 use Rattle.lists.specs.Tests.{Outcome, holds, fails, outcome}
-use Rattle.nucleus.specs.Commands.{one-of, on-session, serving-access-only}
-use Rattle.nucleus.specs.Users.{fresh-user, opened, is-active, ended, with-overdue}
+use Rattle.nucleus.specs.Commands.{one-of, on-session}
+use Rattle.nucleus.specs.Users.{fresh-user, opening, opened, is-active, ended, with-overdue}
 use Rattle.nucleus.specs.Nucleus.{Nucleus}
-use Rattle.nucleus.specs.Rows.{is-overdue, session-in-transaction, access-refused}
-use Rattle.nucleus.specs.Step.{turned-away, let-in, admitted-session, admitted-user}
+use Rattle.nucleus.specs.Rows.{first-cause, rows-after-session, is-overdue, session-in-transaction, ready-refused, access-refused, transaction-missing}
+use Rattle.nucleus.specs.Step.{turned-away, let-in, unless-refused, admitted-session, admitted-user}
 use Rattle.nucleus.specs.declared.Call.{Call}
 use Rattle.nucleus.specs.declared.Command.{Command}
 use Rattle.nucleus.specs.declared.EtData.{EtData}
-use Rattle.nucleus.specs.declared.Response.the-variants.{BackedOut, AccessOnly}
+use Rattle.nucleus.specs.declared.Response.{Response}
+use Rattle.nucleus.specs.declared.Response.the-variants.{BackedOut}
 use Rattle.nucleus.specs.declared.User.{User}
 use Rattle.overdue.specs.Parts.{parts}
 use Rattle.overdue.specs.Laws.{out-parts, backed-out-parts}
+use Rattle.shares.specs.Shares.{verdict}
+use Rattle.access.specs.Access.{session-cause, admission-of}
 
 -- ---- after the clock, whatever else the state keeps
--- 29 goes by the session that opened; where there is no such user, none that opens is access-only either
-opened-access : (users : List User) (k : ℕ) → getD (set users k (opened (getD users k fresh-user))) k fresh-user .«access_only» ≡ opened (getD users k fresh-user) .«access_only»
-opened-access users k = go (outcome (ltb k (length users)))
+-- a user is judged by the session that opened; what is no user of the nucleus is judged alike without a session and with one that opens
+opened-alike : {A : Type 0} (f : User → A) → f fresh-user ≡ f opening → (users : List User) (k : ℕ)
+    → f (getD (set users k (opened (getD users k fresh-user))) k fresh-user) ≡ f (opened (getD users k fresh-user))
+opened-alike f same users k = go (outcome (ltb k (length users)))
   where
-    go : Outcome (ltb k (length users)) → getD (set users k (opened (getD users k fresh-user))) k fresh-user .«access_only» ≡ opened (getD users k fresh-user) .«access_only»
-    go (holds t) = ap (λ u. u .«access_only») (getD-set-same users k (opened (getD users k fresh-user)) fresh-user (ltb-true _ _ t))
+    go : Outcome (ltb k (length users)) → f (getD (set users k (opened (getD users k fresh-user))) k fresh-user) ≡ f (opened (getD users k fresh-user))
+    go (holds t) = ap f (getD-set-same users k (opened (getD users k fresh-user)) fresh-user (ltb-true _ _ t))
     go (fails t) =
         let past = ltb-false k (length users) t in
-        rw (set-out users k (opened (getD users k fresh-user)) past, List·getD-eq-default users fresh-user past)
+        rw (set-out users k (opened (getD users k fresh-user)) past, List·getD-eq-default users fresh-user past) same
 
 module _ (c : Command) (call : Call) (d : Definition) (clock : ℕ) (users : List User) (kept : List EtData) (assigned : List ℕ) (count : ℕ) (store queue images : List ℕ) where
   abbrev place : ℕ
@@ -56,9 +61,9 @@ module _ (c : Command) (call : Call) (d : Definition) (clock : ℕ) (users : Lis
   unfolding session-in-transaction
   session-is = refl
 
-  access-is : access-refused c call (with-caller (opened caller)) ≡ (opened caller .«access_only» && not (one-of serving-access-only c))
-  unfolding access-refused
-  access-is = ap (λ only. only && not (one-of serving-access-only c)) (opened-access users place)
+  cause-is : first-cause (rows-after-session c call (with-caller (opened caller))) ≡ session-cause c (opened caller)
+  unfolding ready-refused access-refused transaction-missing session-cause
+  cause-is = opened-alike (session-cause c) refl users place
 
   pub marked : caller .overdue ≡ true → admitted-user c call here ≡ turned-away BackedOut (with-caller (with-overdue false caller))
   unfolding admitted-user
@@ -70,15 +75,11 @@ module _ (c : Command) (call : Call) (d : Definition) (clock : ℕ) (users : Lis
     unfolding admitted-user
     session-refused active = rw (mark-is ∙ unmarked, session-is ∙ active, backed-out-parts d clock users kept assigned count store queue images (call .user))
 
-    module _ (free : (one-of on-session c && is-active caller) ≡ false) where
-      opens : admitted-user c call here ≡ admitted-session c call (with-caller (opened caller))
-      unfolding admitted-user
-      opens = rw (mark-is ∙ unmarked, session-is ∙ free)
-
-      pub access-turned : (opened caller .«access_only» && not (one-of serving-access-only c)) ≡ true → admitted-user c call here ≡ turned-away AccessOnly (with-caller (opened caller))
-      unfolding admitted-session
-      access-turned only = opens ∙ rw (access-is ∙ only)
-
-      pub access-given : (opened caller .«access_only» && not (one-of serving-access-only c)) ≡ false → admitted-user c call here ≡ let-in c (with-caller (opened caller))
-      unfolding admitted-session
-      access-given access = opens ∙ rw (access-is ∙ access)
+    pub judged : (one-of on-session c && is-active caller) ≡ false
+        → admitted-user c call here ≡ admission-of (verdict (session-cause c (opened caller))) c (with-caller (opened caller))
+    unfolding admitted-user admitted-session
+    judged free = rw (mark-is ∙ unmarked, session-is ∙ free, cause-is) (go (session-cause c (opened caller)))
+      where
+        go : (x : Option Response) → unless-refused x (with-caller (opened caller)) (let-in c (with-caller (opened caller))) ≡ admission-of (verdict x) c (with-caller (opened caller))
+        go (some cause) = refl
+        go none = refl

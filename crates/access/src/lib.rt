@@ -1,16 +1,17 @@
-// Whether a caller is let in, after the clock (document 01, 'Responses'): 9, the session that opens, 29.
+// Whether a caller is let in, after the clock (document 01, 'Responses'): 9, the session that opens, 211, 29, 212.
 ghost use mathlib.Core.Bool.{_&&_, not};
 ghost use mathlib.Core.List.{List};
 ghost use mathlib.Core.Path.{_≡_};
 ghost use Prim.Native.Nat.{ℕ, _-_};
 ghost use lib.ListN.{getD, set};
-ghost use Rattle.nucleus.specs.Commands.{one-of, on-session, serving-access-only};
-ghost use Rattle.nucleus.specs.Users.{fresh-user, is-active};
+ghost use Rattle.nucleus.specs.Commands.{one-of, on-session, serving-ready, setting-ready, serving-access-only};
+ghost use Rattle.nucleus.specs.Users.{fresh-user, is-active, is-ready};
 ghost use Rattle.nucleus.specs.Step.{admitted-user};
 ghost use Rattle.nucleus.specs.declared.EtData.{EtData};
 ghost use Rattle.nucleus.specs.declared.User.{User};
 ghost use Rattle.overdue.specs.Parts.{parts};
-ghost use Rattle.access.specs.Access.{admission-of};
+ghost use Rattle.shares.specs.Shares.{verdict};
+ghost use Rattle.access.specs.Access.{session-cause, admission-of};
 use definition::Definition;
 use nucleus::Call;
 use nucleus::Command;
@@ -24,6 +25,26 @@ fn on_session(command: Command) -> bool
 {
     match command {
         Command::Op | Command::Cl => true,
+        _ => false,
+    }
+}
+
+// What a user whose transaction is ready may call.
+fn serves_ready(command: Command) -> bool
+    ensures { λ r. ⌜ r ≡ one-of serving-ready command ⌝ }
+{
+    match command {
+        Command::Et | Command::Bt => true,
+        _ => false,
+    }
+}
+
+// PE.
+fn sets_ready(command: Command) -> bool
+    ensures { λ r. ⌜ r ≡ one-of setting-ready command ⌝ }
+{
+    match command {
+        Command::Pe => true,
         _ => false,
     }
 }
@@ -48,6 +69,16 @@ fn session_in_transaction(command: Command, user: User) -> bool
     false
 }
 
+// "another call while ready".
+fn ready_refused(command: Command, user: User) -> bool
+    ensures { λ r. ⌜ r ≡ (is-ready user && not (one-of serving-ready command)) ⌝ }
+{
+    if user.transaction.ready {
+        return !serves_ready(command);
+    }
+    false
+}
+
 // "access-only user, call not OP, CL, L1, RE".
 fn access_refused(command: Command, user: User) -> bool
     ensures { λ r. ⌜ r ≡ (user .«access_only» && not (one-of serving-access-only command)) ⌝ }
@@ -58,6 +89,32 @@ fn access_refused(command: Command, user: User) -> bool
     false
 }
 
+// "PE without a transaction".
+fn transaction_missing(command: Command, user: User) -> bool
+    ensures { λ r. ⌜ r ≡ (one-of setting-ready command && not (is-active user)) ⌝ }
+{
+    if sets_ready(command) {
+        return !user.transaction.active;
+    }
+    false
+}
+
+// 211, 29 and 212, of a user whose session is open.
+fn judge(command: Command, user: User) -> Verdict
+    ensures { λ r. ⌜ r ≡ verdict (session-cause command user) ⌝ }
+{
+    if ready_refused(command, user) {
+        return Verdict::Refused(Response::TransactionReady);
+    }
+    if access_refused(command, user) {
+        return Verdict::Refused(Response::AccessOnly);
+    }
+    if transaction_missing(command, user) {
+        return Verdict::Refused(Response::NoTransaction);
+    }
+    Verdict::Passed
+}
+
 // What becomes of a caller: whether he is let in, his session and transaction then, and the entries that are left.
 pub struct Entered {
     pub verdict: Verdict,
@@ -65,7 +122,7 @@ pub struct Entered {
     pub count: usize,
 }
 
-// 9, the session that opens, and 29, after the clock; whatever else the state keeps.
+// 9, the session that opens, and 211, 29 and 212, after the clock; whatever else the state keeps.
 pub fn admit_user(
     command: Command,
     call: Call,
@@ -99,15 +156,9 @@ pub fn admit_user(
         };
     }
     let session = sessions::opened(user);
-    if access_refused(command, session) {
-        return Entered {
-            verdict: Verdict::Refused(Response::AccessOnly),
-            user: session,
-            count,
-        };
-    }
+    let verdict = judge(command, session);
     Entered {
-        verdict: Verdict::Passed,
+        verdict,
         user: session,
         count,
     }

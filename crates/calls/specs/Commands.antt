@@ -14,12 +14,12 @@ use Rattle.removal.specs.declared.Removal.the-variants.{All}
 use Rattle.nucleus.specs.Responses.{refused}
 use Rattle.nucleus.specs.declared.Call.{Call}
 use Rattle.nucleus.specs.declared.Command.{Command}
-use Rattle.nucleus.specs.declared.Command.the-variants.{Hi, Ri, L1, L4, A1, E1, N1, N2, Et, Bt, Re, Op, Cl}
+use Rattle.nucleus.specs.declared.Command.the-variants.{Hi, Ri, L1, L4, A1, E1, N1, N2, Et, Bt, Re, Op, Cl, Pe}
 use Rattle.nucleus.specs.declared.Response.{Response}
 use Rattle.nucleus.specs.declared.Response.the-variants.{FileUnknown, IsnInvalid}
 use Rattle.shares.specs.Shares.{done}
 use Rattle.shares.specs.Chains.{left-queue, left-images}
-use Rattle.shares.specs.Outcomes.{ri-done, ri-queue, ri-images, et-done, et-queue, et-images, bt-done, re-done, re-after, op-done, cl-done}
+use Rattle.shares.specs.Outcomes.{ri-done, ri-queue, ri-images, et-done, et-queue, et-images, bt-done, re-done, re-after, op-done, cl-done, pe-done}
 use Rattle.shares.specs.declared.Share.{Share}
 use Rattle.file_commands.specs.FileCommands.{Left, left, on-file}
 use Rattle.understanding.specs.Understanding.{isn-refused}
@@ -65,3 +65,4 @@ module _ (call : Call) (most clock : ℕ) (x : Share) (d : Definition) (store qu
   performed Re = left (re-done x buffer) store queue images (re-after x buffer)
   performed Op = left (op-done call x) store queue images buffer
   performed Cl = left (cl-done x) store queue images buffer
+  performed Pe = left (pe-done x) store queue images buffer

@@ -23,7 +23,7 @@ use Rattle.nucleus.specs.Target.{isn-in}
 use Rattle.nucleus.specs.Step.{perform}
 use Rattle.nucleus.specs.declared.Call.{Call}
 use Rattle.nucleus.specs.declared.Command.{Command}
-use Rattle.nucleus.specs.declared.Command.the-variants.{Hi, Ri, L1, L4, A1, E1, N1, N2, Et, Bt, Re, Op, Cl}
+use Rattle.nucleus.specs.declared.Command.the-variants.{Hi, Ri, L1, L4, A1, E1, N1, N2, Et, Bt, Re, Op, Cl, Pe}
 use Rattle.nucleus.specs.declared.Response.the-variants.{FileUnknown, IsnInvalid}
 use Rattle.shares.specs.Shares.{share-of}
 use Rattle.shares.specs.Chains.{max-scratch, e1-cause, a1-cause, n1-cause, n2-cause, replaced, added, free-isn}
@@ -31,7 +31,7 @@ use Rattle.shares.specs.Laws.{result-on, part-kept}
 use Rattle.shares.specs.LawsHolding.{perform-hi, perform-ri, perform-ri-all}
 use Rattle.shares.specs.LawsReading.{perform-l1, perform-l4}
 use Rattle.shares.specs.LawsChanging.{perform-a1, perform-e1, perform-n1, perform-n2}
-use Rattle.shares.specs.LawsEnding.{perform-et, perform-bt, perform-re, perform-op, perform-cl}
+use Rattle.shares.specs.LawsEnding.{perform-et, perform-bt, perform-re, perform-op, perform-cl, perform-pe}
 use Rattle.shares.specs.LawsRefused.{refusal-is, perform-unknown, perform-invalid}
 use Rattle.shares.specs.declared.Share.{Share}
 use Rattle.file_commands.specs.FileCommands.{Left, on-file}
@@ -111,6 +111,7 @@ module _ (capacity : ℕ) (call : Call) (format buffer : List ℕ) (n : Nucleus)
     on-file-performed Re known one valid = not-both false known refl
     on-file-performed Op known one valid = not-both false known refl
     on-file-performed Cl known one valid = not-both false known refl
+    on-file-performed Pe known one valid = not-both false known refl
 
   -- every file's record has room where a new one is made
   abbrev Small : Type 0
@@ -156,3 +157,4 @@ module _ (capacity : ℕ) (call : Call) (format buffer : List ℕ) (n : Nucleus)
   performed-is long small Re = perform-re capacity call format buffer n
   performed-is long small Op = perform-op capacity call format buffer n
   performed-is long small Cl = perform-cl capacity call format buffer n
+  performed-is long small Pe = perform-pe capacity call format buffer n

@@ -16,7 +16,7 @@ use Rattle.layout.specs.Layout.{place}
 use Rattle.layout.specs.Laws.{place-found}
 use Rattle.validity.specs.Validity.{valid}
 use Rattle.validity.specs.Laws.{valid-at}
-use Rattle.nucleus.specs.Commands.{commands, command-of}
+use Rattle.nucleus.specs.Commands.{direct-commands, command-of}
 use Rattle.nucleus.specs.Users.{fresh-user}
 use Rattle.nucleus.specs.Nucleus.{Nucleus, nucleus, request, result, beyond-data}
 use Rattle.nucleus.specs.Target.{assigned-in}
@@ -75,11 +75,11 @@ module _ (capacity : ℕ) (call : Call) (format buffer : List ℕ) (n : Nucleus)
 
   module _ (usable : first-cause (rows-usable capacity n) ≡ none) where
     -- 22 and 72
-    pub step-misunderstood : (cause : Response) → first-cause (rows-understood commands call) ≡ some cause → step capacity call format buffer n ≡ refusal buffer n cause
+    pub step-misunderstood : (cause : Response) → first-cause (rows-understood direct-commands call) ≡ some cause → step capacity call format buffer n ≡ refusal buffer n cause
     unfolding step admitted
     step-misunderstood cause e = rw (usable, e)
 
-    module _ (c : Command) (understood : first-cause (rows-understood commands call) ≡ none) (known : command-of commands (call .command) ≡ some c) (m : Nucleus) where
+    module _ (c : Command) (understood : first-cause (rows-understood direct-commands call) ≡ none) (known : command-of direct-commands (call .command) ≡ some c) (m : Nucleus) where
       -- 9 and 29
       pub step-turned : (cause : Response) → admitted-user c call (clocked (call .clock) n) ≡ turned-away cause m → step capacity call format buffer n ≡ refusal buffer m cause
       unfolding step admitted
@@ -129,9 +129,9 @@ module _ (capacity : ℕ) (call : Call) (format buffer : List ℕ) (s : State) (
     abbrev admitted-to : Nucleus
     admitted-to = parts (s .definition) clock users (s .«et_data») (s .«last_assigned») count store′ queue′ images′
 
-    module _ (c : Command) (usable : first-cause (rows-usable capacity begun) ≡ none) (understood : understood-as commands call ≡ As c) where
-      abbrev plain : Plain commands call c
-      plain = understood-plain commands call c understood
+    module _ (c : Command) (usable : first-cause (rows-usable capacity begun) ≡ none) (understood : understood-as direct-commands call ≡ As c) where
+      abbrev plain : Plain direct-commands call c
+      plain = understood-plain direct-commands call c understood
 
       abbrev Judged : Verdict → Type 0
       Judged v = admitted-user c call (clocked (call .clock) begun) ≡ admission-of v c admitted-to

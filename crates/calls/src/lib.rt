@@ -119,7 +119,7 @@ fn ri(
     )
 }
 
-// Any command past 29. `found` is the place of the call's file, which only commands about a file look at.
+// Any command past 212. `found` is the place of the call's file, which only commands about a file look at.
 fn perform(
     command: Command,
     call: Call,
@@ -151,6 +151,7 @@ fn perform(
         Command::Re => user_data::re(share, buffer),
         Command::Op => session_commands::op(call, share),
         Command::Cl => session_commands::cl(share),
+        Command::Pe => ending::pe(share),
         Command::Ri => ri(
             call,
             most,

@@ -40,13 +40,13 @@ use Rattle.nucleus.specs.Nucleus.{Given, given, max-users, user-at}
 use Rattle.nucleus.specs.WellMade.{too-short, well-made}
 use Rattle.nucleus.specs.Clock.{removed, backed-out, clocked}
 use Rattle.nucleus.specs.Target.{target, new-record}
-use Rattle.nucleus.specs.Rows.{rows-usable, rows-understood, is-overdue, session-in-transaction, access-refused, file-unknown, isn-invalid, format-refused, field-twice, record-length-refused, value-refused, none-found, held-elsewhere, presence-refused, not-held, release-refused, file-full, limit-reached, queue-full, value-taken}
+use Rattle.nucleus.specs.Rows.{rows-usable, rows-understood, is-overdue, session-in-transaction, ready-refused, access-refused, transaction-missing, file-unknown, isn-invalid, format-refused, field-twice, record-length-refused, value-refused, none-found, held-elsewhere, presence-refused, not-held, release-refused, file-full, limit-reached, queue-full, value-taken}
 use Rattle.nucleus.specs.Effects.{held, imaged, written, erased, effect-at}
 use Rattle.nucleus.specs.Step.{admitted-session, admitted-user, admitted, perform, step, set-up}
 use Rattle.nucleus.specs.declared.Response.the-variants.{Good}
 use Rattle.entries.specs.declared.Entry.{Entry}
 use Rattle.database.specs.Database.{fitting, direct-call, set-up-database}
-use Rattle.claim.specs.Journal.{apply, Member, Journal, new-member, new-journal, in-transaction, struck, log-clock, log-start, log-change, log-end, log-limit, fed, record-told}
+use Rattle.claim.specs.Journal.{apply, Member, Journal, new-member, new-journal, in-transaction, struck, log-clock, log-start, log-change, log-end, log-limit, log-ready, fed, record-told}
 use Rattle.claim.specs.Run.{World, run, begin, BackOut, back-outs, struck-all, record-in}
 use Rattle.claim.specs.Answers.{Answered, answers, fed-all}
 use Rattle.claim.specs.Claim.{Chosen}
@@ -109,10 +109,14 @@ abbrev both : List (Option (List ℕ)) → List ℕ → Member → Member → �
 both records active one two clock = record { journal = told records active one two clock; records = records; active = active }
 
 abbrev idle : ℕ → Member
-idle limit = record { limit = limit; start = none }
+idle limit = record { limit = limit; start = none; ready = false }
 
 abbrev since : ℕ → ℕ → Member
-since start limit = record { limit = limit; start = some start }
+since start limit = record { limit = limit; start = some start; ready = false }
+
+-- and set ready
+abbrev ready-since : ℕ → ℕ → Member
+ready-since start limit = record { limit = limit; start = some start; ready = true }
 
 -- ---- calls: file 1, option blank, all else 0 or empty, unless named
 abbrev sent : String → ℕ → ℕ → ℕ → ℕ → ℕ → List ℕ → List ℕ → Given
@@ -163,6 +167,10 @@ erasing = sent "N2" blank 1 3 0 0 (text "RC.") (text "9") ∷ bare "ET" 1 0 0 �
 -- a record that is kept, and an A1 with `.` at clock 5
 replacing-nothing : List Given
 replacing-nothing = adds 0 ∷ bare "ET" 1 0 0 ∷ sent "A1" option-H 1 1 0 5 (text ".") [] ∷ []
+
+-- a hold and a record at clock 0, then PE; user 2 reads it when the transaction is more than 900 old; ET
+ready-list : List Given
+ready-list = bare "HI" 1 2 0 ∷ adds 0 ∷ bare "PE" 1 0 0 ∷ reads 901 ∷ bare "ET" 1 0 901 ∷ []
 
 -- a journal at clock 7
 abbrev ahead : Journal
@@ -229,6 +237,20 @@ rows =
     row (adds 0 ∷ bare "ET" 1 0 0 ∷ sent "L4" blank 2 1 0 7 (text ".") [] ∷ [])
     (both (some (text "2AB") ∷ none ∷ none ∷ []) (2 ∷ []) (idle 900) (since 7 900) 7) ∷
     row (sent "N1" blank 1 0 0 0 (text ".") [] ∷ []) (both (some (text "   ") ∷ none ∷ none ∷ []) (1 ∷ []) (since 0 900) (idle 900) 0) ∷
+    -- document 02, No. 12: "time doesn't back him out (nor in the book of requirement 3, after a PE answered 0)", and the record stays; a BT still does
+    row (take 4 ready-list) (both (some (text "2AB") ∷ none ∷ none ∷ []) (1 ∷ []) (ready-since 0 900) (idle 900) 901) ∷
+    row ready-list (both (some (text "2AB") ∷ none ∷ none ∷ []) [] (idle 900) (idle 900) 901) ∷
+    back-out-row (take 4 ready-list) (out 1 ∷ []) (both (none ∷ none ∷ none ∷ []) [] (idle 900) (idle 900) 901) ∷
+    row (take 3 ready-list ++ (reads 10000 ∷ [])) (both (some (text "2AB") ∷ none ∷ none ∷ []) (1 ∷ []) (ready-since 0 900) (idle 900) 10000) ∷
+    -- "OP and CL do so still"
+    row (take 3 ready-list ++ (bare "CL" 1 0 0 ∷ [])) (both (none ∷ none ∷ none ∷ []) [] (idle 900) (idle 900) 0) ∷
+    row (take 3 ready-list ++ (opens 20 ∷ [])) (both (none ∷ none ∷ none ∷ []) [] (idle 900) (idle 900) 0) ∷
+    -- a call answered 211 changes nothing but the clock; a PE answered 212 sets nothing ready
+    row (take 3 ready-list ++ (adds 5 ∷ [])) (both (some (text "2AB") ∷ none ∷ none ∷ []) (1 ∷ []) (ready-since 0 900) (idle 900) 5) ∷
+    row (bare "PE" 1 0 0 ∷ adds 0 ∷ reads 901 ∷ []) (both (none ∷ none ∷ none ∷ []) [] (idle 900) (idle 900) 901) ∷
+    -- "to that transaction's end": the next one is not ready
+    row (adds 0 ∷ bare "PE" 1 0 0 ∷ bare "ET" 1 0 0 ∷ bare "HI" 1 2 0 ∷ reads 901 ∷ [])
+    (both (some (text "2AB") ∷ none ∷ none ∷ []) [] (idle 900) (idle 900) 901) ∷
     -- "A response of 72's row or an earlier one changes nothing in it": 22, 72; a later one raises the clock: 113
     row (adds 0 ∷ bare "XX" 2 1 901 ∷ bare "HI" 33 1 901 ∷ []) (both (some (text "2AB") ∷ none ∷ none ∷ []) (1 ∷ []) (since 0 900) (idle 900) 0) ∷
     row (adds 0 ∷ bare "HI" 2 4 901 ∷ []) (both (none ∷ none ∷ none ∷ []) [] (idle 900) (idle 900) 901) ∷
@@ -270,6 +292,8 @@ journal-rows =
     (told (some (text "2AB") ∷ none ∷ none ∷ []) (1 ∷ []) (since 0 900) (idle 900) 6) ∷
     -- "A1 sets the named fields of a record there": where there is none it makes none
     journal-row (answered 0 1 (sent "A1" blank 1 1 0 0 (text "RC.") (text "3")) ∷ []) (told (none ∷ none ∷ none ∷ []) (1 ∷ []) (since 0 900) (idle 900) 0) ∷
+    -- only a PE answered 0 sets ready
+    journal-row (answered 0 1 (adds 0) ∷ answered 211 0 (bare "PE" 1 0 0) ∷ answered 0 1 (reads 901) ∷ []) (told (none ∷ none ∷ none ∷ []) [] (idle 900) (idle 900) 901) ∷
     -- a record of another file
     journal-row (answered 0 1 (in-file 2 (adds 0)) ∷ []) (told (none ∷ none ∷ none ∷ []) (1 ∷ []) (since 0 900) (idle 900) 0) ∷ []
 
@@ -298,7 +322,7 @@ record Worked : Type 0 where
   journal-rows-as-expected : Each (λ (r : JournalRow). r .computed ≡ r .expected) journal-rows
 
 worked : Worked
-unfolding house-table house-calls two-adds erasing replacing-nothing packed-table rows journal-rows record-length field-offset file-offset store-size image-length place valid file-valid field-valid name-valid format-of option-of file-item field-item item-of read-from read-table stored below-zero allowed null-value field-named format-valid element places named-twice length-needed needed-within fits read-fields write-fields values-allowed null-record slot-fits has-record get lowest elsewhere put-record empty fresh file-part with-part pack-of unpack-of entries holder held-by repeated append change closed remove-queue remove-images remove-count image-has keep-image settled first-change-queue first-change-images put-back-in put-back restore command-of has-option too-short well-made removed backed-out clocked target rows-usable rows-understood is-overdue session-in-transaction access-refused file-unknown isn-invalid format-refused field-twice record-length-refused value-refused none-found held-elsewhere presence-refused not-held release-refused file-full limit-reached queue-full new-record value-taken held imaged written erased effect-at admitted-session admitted-user admitted perform step set-up fitting direct-call set-up-database apply struck log-clock log-start log-change log-end log-limit fed record-told run
+unfolding house-table house-calls two-adds erasing replacing-nothing ready-list packed-table rows journal-rows record-length field-offset file-offset store-size image-length place valid file-valid field-valid name-valid format-of option-of file-item field-item item-of read-from read-table stored below-zero allowed null-value field-named format-valid element places named-twice length-needed needed-within fits read-fields write-fields values-allowed null-record slot-fits has-record get lowest elsewhere put-record empty fresh file-part with-part pack-of unpack-of entries holder held-by repeated append change closed remove-queue remove-images remove-count image-has keep-image settled first-change-queue first-change-images put-back-in put-back restore command-of has-option too-short well-made removed backed-out clocked target rows-usable rows-understood is-overdue session-in-transaction ready-refused access-refused transaction-missing file-unknown isn-invalid format-refused field-twice record-length-refused value-refused none-found held-elsewhere presence-refused not-held release-refused file-full limit-reached queue-full new-record value-taken held imaged written erased effect-at admitted-session admitted-user admitted perform step set-up fitting direct-call set-up-database apply struck log-clock log-start log-change log-end log-limit log-ready fed record-told run
 worked = record {
   good = refl;
   chosen = record { different = refl; active = refl };
@@ -306,6 +330,6 @@ worked = record {
   held-one = refl;
   held-two = refl;
   gap-closed = refl;
-  rows-as-expected = (refl, (refl, (refl, (refl, (refl, (refl, (refl, (refl, (refl, (refl, (refl, (refl, (refl, (refl, (refl, (refl, (refl, (refl, (refl, (refl, (refl, (refl, (refl, (refl, (refl, (refl, (refl, (refl, (refl, (refl, (refl, tt)))))))))))))))))))))))))))))));
-  journal-rows-as-expected = (refl, (refl, (refl, (refl, tt))));
+  rows-as-expected = (refl, (refl, (refl, (refl, (refl, (refl, (refl, (refl, (refl, (refl, (refl, (refl, (refl, (refl, (refl, (refl, (refl, (refl, (refl, (refl, (refl, (refl, (refl, (refl, (refl, (refl, (refl, (refl, (refl, (refl, (refl, (refl, (refl, (refl, (refl, (refl, (refl, (refl, (refl, (refl, tt))))))))))))))))))))))))))))))))))))))));
+  journal-rows-as-expected = (refl, (refl, (refl, (refl, (refl, tt)))));
 }

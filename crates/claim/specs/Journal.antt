@@ -15,12 +15,12 @@ use Rattle.fields.specs.Fields.{write-fields}
 use Rattle.nulls.specs.Nulls.{nulls}
 use Rattle.definition.specs.declared.Definition.{Definition}
 use Rattle.definition.specs.declared.File.{File}
-use Rattle.nucleus.specs.Commands.{commands, command-of, one-of, on-session}
+use Rattle.nucleus.specs.Commands.{direct-commands, command-of, one-of, on-session}
 use Rattle.nucleus.specs.Users.{default-time-limit, or-default, late}
 use Rattle.nucleus.specs.Nucleus.{max-users}
 use Rattle.nucleus.specs.declared.Call.{Call}
 use Rattle.nucleus.specs.declared.Command.{Command}
-use Rattle.nucleus.specs.declared.Command.the-variants.{Hi, Ri, L1, L4, A1, E1, N1, N2, Et, Bt, Re, Op, Cl}
+use Rattle.nucleus.specs.declared.Command.the-variants.{Hi, Ri, L1, L4, A1, E1, N1, N2, Et, Bt, Re, Op, Cl, Pe}
 
 -- ---- changes
 -- what a call does to one record: A1, E1, and N1 or N2, with the format and record buffer that it brought
@@ -44,11 +44,12 @@ apply f (replace format values) (some r) = some (write-fields f format values r)
 apply f erase x = none
 apply f (add format values) x = some (write-fields f format values (nulls (fields-of f)))
 
--- ---- the journal: "a clock, first 0, a list of changes and for each user a time limit, first 900, and the start of his transaction, if any".
--- A change that is struck is in the list no more
+-- ---- the journal: "a clock, first 0, a list of changes and for each user a time limit, first 900, and the start of his transaction, if any", and
+-- whether that is ready (document 02, No. 12). A change that is struck is in the list no more
 pub record Member : Type 0 where
   pub limit : ℕ
   pub start : Option ℕ
+  pub ready : Bool
 
 pub record Journal : Type 0 where
   pub clock : ℕ
@@ -56,7 +57,7 @@ pub record Journal : Type 0 where
   pub changes : List Change
 
 abbrev pub new-member : Member
-new-member = record { limit = default-time-limit; start = none }
+new-member = record { limit = default-time-limit; start = none; ready = false }
 
 abbrev pub new-journal : Journal
 new-journal = record { clock = 0; members = replicate max-users new-member; changes = [] }
@@ -76,6 +77,10 @@ abbrev pub in-transaction : Journal → ℕ → Bool
 in-transaction j u = within 1 max-users u && has-start (member j u .start)
 
 -- ---- what it does
+-- "his transaction ends", and with it that it is ready
+abbrev pub ended-member : Member → Member
+ended-member m = record { limit = m .limit; start = none; ready = false }
+
 -- "his open changes are struck, his transaction ends"
 abbrev pub strikes : ℕ → Change → Bool
 strikes u c = c .uncommitted && eqb (c .user) u
@@ -83,17 +88,21 @@ strikes u c = c .uncommitted && eqb (c .user) u
 unfoldable pub struck : ℕ → Journal → Journal
 struck u j = record {
   clock = j .clock;
-  members = set (j .members) (u - 1) (record { limit = member j u .limit; start = none });
+  members = set (j .members) (u - 1) (ended-member (member j u));
   changes = sift (λ c. not (strikes u c)) (j .changes);
 }
 
--- "backs out each user whose transaction began more than his limit ago"
-abbrev pub is-late : ℕ → ℕ → Option ℕ → Bool
-is-late clock limit none = false
-is-late clock limit (some begun) = late clock begun limit
+-- "backs out each user whose transaction began more than his limit ago"; No. 12: "time doesn't back him out (nor in the book of requirement 3, after a
+-- PE answered 0)"
+abbrev pub began-late : ℕ → ℕ → Option ℕ → Bool
+began-late clock limit none = false
+began-late clock limit (some begun) = late clock begun limit
+
+abbrev pub is-late : ℕ → Member → Bool
+is-late clock m = not (m .ready) && began-late clock (m .limit) (m .start)
 
 abbrev pub strike-late : ℕ → Journal → Journal
-strike-late u j = cond (is-late (j .clock) (member j u .limit) (member j u .start)) (struck u j) j
+strike-late u j = cond (is-late (j .clock) (member j u)) (struck u j) j
 
 abbrev pub strike-late-from : ℕ → ℕ → Journal → Journal
 strike-late-from zero u j = j
@@ -109,7 +118,8 @@ start-at clock none = some clock
 start-at clock (some begun) = some begun
 
 unfoldable pub log-start : ℕ → Journal → Journal
-log-start u j = with-member u (record { limit = member j u .limit; start = start-at (j .clock) (member j u .start) }) j
+log-start u j =
+    with-member u (record { limit = member j u .limit; start = start-at (j .clock) (member j u .start); ready = member j u .ready }) j
 
 -- "the last four add an open change at the ISN answered"
 unfoldable pub log-change : Call → ℕ → Update → Journal → Journal
@@ -126,12 +136,16 @@ commits u c = record { user = c .user; file = c .file; isn = c .isn; update = c 
 unfoldable pub log-end : ℕ → Journal → Journal
 log-end u j = record {
   clock = j .clock;
-  members = set (j .members) (u - 1) (record { limit = member j u .limit; start = none });
+  members = set (j .members) (u - 1) (ended-member (member j u));
   changes = map (commits u) (j .changes);
 }
 
 unfoldable pub log-limit : ℕ → ℕ → Journal → Journal
-log-limit u limit j = with-member u (record { limit = limit; start = member j u .start }) j
+log-limit u limit j = with-member u (record { limit = limit; start = member j u .start; ready = member j u .ready }) j
+
+-- No. 12: a PE answered 0
+unfoldable pub log-ready : ℕ → Journal → Journal
+log-ready u j = with-member u (record { limit = member j u .limit; start = member j u .start; ready = true }) j
 
 -- a call of a command that was answered 0
 abbrev pub log-accepted : Command → Call → List ℕ → List ℕ → ℕ → Journal → Journal
@@ -148,6 +162,7 @@ log-accepted Bt call format buffer isn j = struck (call .user) j
 log-accepted Re call format buffer isn j = j
 log-accepted Op call format buffer isn j = log-limit (call .user) (or-default default-time-limit (call .limit)) j
 log-accepted Cl call format buffer isn j = log-limit (call .user) default-time-limit j
+log-accepted Pe call format buffer isn j = log-ready (call .user) j
 
 -- of a command, and the number that answered it: "OP or CL with 9 backs him out"
 abbrev pub log-answered : Option Command → Call → List ℕ → List ℕ → ℕ → ℕ → Journal → Journal
@@ -163,7 +178,7 @@ is-early response = any (eqb response) (10 ∷ 11 ∷ 12 ∷ 22 ∷ 72 ∷ [])
 -- one call's arguments, its response's number and its ISN
 unfoldable pub fed : Call → List ℕ → List ℕ → ℕ → ℕ → Journal → Journal
 fed call format buffer response isn j =
-    cond (is-early response) j (log-answered (command-of commands (call .command)) call format buffer response isn (log-clock (call .clock) j))
+    cond (is-early response) j (log-answered (command-of direct-commands (call .command)) call format buffer response isn (log-clock (call .clock) j))
 
 -- ---- its records: "come from empty files by the changes not struck, in order"
 abbrev pub is-at : ℕ → ℕ → Change → Bool

@@ -1,30 +1,33 @@
 -- Statements beside requirement 3, to be read with Claim.antt. Most are of every definition table, capacity and lent store, queue and images for
 -- which set-up answers 0, and of every list of calls after it.
-use Prim.Native.Nat.{ℕ}
+use Prim.Native.Nat.{ℕ, _≤_}
 use mathlib.Core.Path.{_≡_}
 use mathlib.Core.Logic.{_⊎_}
-use mathlib.Core.Bool.{Bool, true, false, _&&_}
+use mathlib.Core.Bool.{Bool, true, false, not, _&&_}
 use mathlib.Core.List.{List, [], _∷_, map}
 use mathlib.Core.Option.{some}
 use lib.Dec.{eqb}
+use lib.ListN.{length}
 use Rattle.lists.specs.Tests.{within}
 use Rattle.lists.specs.Folds.{any, all}
+use Rattle.lists.specs.Sift.{sift}
 use Rattle.definition.specs.Table.{fields-of}
 use Rattle.definition.specs.declared.Definition.{Definition}
 use Rattle.fields.specs.Fields.{write-fields}
 use Rattle.nulls.specs.Nulls.{nulls}
 use Rattle.reading.specs.Grammar.{read-table}
-use Rattle.nucleus.specs.Commands.{code}
+use Rattle.nucleus.specs.Commands.{code, blank}
 use Rattle.nucleus.specs.Users.{is-active}
-use Rattle.nucleus.specs.Nucleus.{Nucleus, Given, max-users, user-at}
+use Rattle.nucleus.specs.Responses.{number}
+use Rattle.nucleus.specs.Nucleus.{Nucleus, Given, max-users, max-et-data, user-at}
 use Rattle.nucleus.specs.WellMade.{too-short, well-made}
 use Rattle.entries.specs.declared.Entry.{Entry}
 use Rattle.database.specs.Database.{Database, in-words, set-up-database}
 use Rattle.nucleus.specs.declared.Call.{Call}
-use Rattle.nucleus.specs.declared.Command.the-variants.{N1, N2}
+use Rattle.nucleus.specs.declared.Command.the-variants.{N1, N2, Et, Bt, Pe}
 use Rattle.nucleus.specs.declared.Response.the-variants.{Good}
-use Rattle.claim.specs.Journal.{Journal, in-transaction, fed, record-told}
-use Rattle.claim.specs.Run.{World, BackOut, run, begin, bt, back-outs, struck-all}
+use Rattle.claim.specs.Journal.{Journal, Change, commits, in-transaction, fed, record-told}
+use Rattle.claim.specs.Run.{World, BackOut, call-given, called, run, begin, bt, back-outs, struck-all}
 use Rattle.claim.specs.Claim.{file-numbered, Chosen}
 use Rattle.claim.specs.Answers.{Answered, answers, fed-all}
 use Rattle.claim.specs.Lent.{Lent, lent-at, Past}
@@ -80,6 +83,46 @@ BackOutsAreFed =
     → Chosen bs (run capacity calls (begin capacity store queue images table) .journal)
     → run capacity (map bt bs) (run capacity calls (begin capacity store queue images table)) .journal
     ≡ struck-all bs (run capacity calls (begin capacity store queue images table) .journal)
+
+-- ---- document 02, No. 12: "A payment and a household's record must end together"
+-- what the nucleus answers
+abbrev pub response-to : ℕ → Given → World → ℕ
+response-to capacity g w = number (call-given capacity g w .answer .response)
+
+-- calls of others than a user
+abbrev pub of-others : ℕ → List Given → Bool
+of-others u calls = all (λ (g : Given). not (eqb (g .call .user) u)) calls
+
+-- an ET with as much data as ET may bring; what else the call has may be anything
+pub record IsEt (g : Given) : Type 0 where
+  pub command : g .call .command ≡ code Et
+  pub option : g .call .option ≡ blank
+  pub fits : length (g .buffer) ≤ max-et-data
+
+pub record IsBt (g : Given) : Type 0 where
+  pub command : g .call .command ≡ code Bt
+  pub option : g .call .option ≡ blank
+
+-- the changes of a user, in order
+abbrev pub changes-of : ℕ → Journal → List Change
+changes-of u j = sift (λ (c : Change). eqb (c .user) u) (j .changes)
+
+-- his ET is answered 0, and every change that the journal had of him is in it still, open no more; or his BT is answered 0
+pub record CanEnd (capacity : ℕ) (u : ℕ) (before now : World) : Type 0 where
+  pub et-good : (g : Given) → g .call .user ≡ u → IsEt g → response-to capacity g now ≡ 0
+  pub all-stand : (g : Given) → g .call .user ≡ u → IsEt g → changes-of u (called capacity g now .journal) ≡ map (commits u) (changes-of u (before .journal))
+  pub bt-good : (g : Given) → g .call .user ≡ u → IsBt g → response-to capacity g now ≡ 0
+
+-- so it is once a PE has been answered 0, whatever others call then, and at whatever clocks
+abbrev pub ReadyEnds : Type 0
+ReadyEnds =
+    (capacity : ℕ) (table store : List ℕ) (queue : List Entry) (images : List ℕ) (calls others : List Given) (pe : Given)
+    → set-up-database capacity store queue images table .response ≡ Good
+    → pe .call .command ≡ code Pe
+    → response-to capacity pe (run capacity calls (begin capacity store queue images table)) ≡ 0
+    → of-others (pe .call .user) others ≡ true
+    → CanEnd capacity (pe .call .user) (called capacity pe (run capacity calls (begin capacity store queue images table)))
+    (run capacity others (called capacity pe (run capacity calls (begin capacity store queue images table))))
 
 -- ---- of the journal alone
 -- "is fed each call's arguments, response and ISN": nothing else of the nucleus comes into it

@@ -13,7 +13,7 @@ use Rattle.records.specs.declared.Found.the-variants.{At, Nowhere}
 use Rattle.queue.specs.declared.Lookup.{Lookup}
 use Rattle.queue.specs.declared.Lookup.the-variants.{Held, Free}
 use Rattle.removal.specs.declared.Removal.the-variants.{One, Unchanged}
-use Rattle.nucleus.specs.Commands.{commands, command-of}
+use Rattle.nucleus.specs.Commands.{direct-commands, command-of}
 use Rattle.nucleus.specs.Users.{is-due, started, with-overdue}
 use Rattle.nucleus.specs.Nucleus.{Nucleus, Request, request, max-users, user-of, change-user, with-clock, with-state}
 use Rattle.nucleus.specs.Clock.{removed, backed-out, timed-out, timed-out-from, clocked}
@@ -23,7 +23,7 @@ use Rattle.nucleus.specs.Effects.{with-entry, held, imaged-at, imaged, written,
 use Rattle.nucleus.specs.Step.{Admission, turned-away, let-in, unless-refused, notified, admitted-session, admitted-user, admitted-command, admitted, refusal, unless, perform, serve, step}
 use Rattle.nucleus.specs.declared.Call.{Call}
 use Rattle.nucleus.specs.declared.Command.{Command}
-use Rattle.nucleus.specs.declared.Command.the-variants.{Hi, Ri, L1, L4, A1, E1, N1, N2, Et, Bt, Re, Op, Cl}
+use Rattle.nucleus.specs.declared.Command.the-variants.{Hi, Ri, L1, L4, A1, E1, N1, N2, Et, Bt, Re, Op, Cl, Pe}
 use Rattle.nucleus.specs.declared.Response.{Response}
 use Rattle.database.specs.Database.{Database, in-words, direct-call}
 
@@ -141,6 +141,7 @@ module _ (r : Request) (isn : ℕ) (n : Nucleus) where
   table-effect Re = refl
   table-effect Op = refl
   table-effect Cl = refl
+  table-effect Pe = refl
 
 table-performed : (r : Request) (n : Nucleus) → table (perform r n .nucleus) ≡ table n
 unfolding perform
@@ -157,7 +158,7 @@ table-served (let-in c n) capacity call format buffer = table-performed (request
 -- ---- a call
 table-stepped : (capacity : ℕ) (call : Call) (format buffer : List ℕ) (n : Nucleus) → table (step capacity call format buffer n .nucleus) ≡ table n
 unfolding step
-table-stepped capacity call format buffer n = table-served (admitted commands capacity call n) capacity call format buffer ∙ table-admitted commands capacity call n
+table-stepped capacity call format buffer n = table-served (admitted direct-commands capacity call n) capacity call format buffer ∙ table-admitted direct-commands capacity call n
 
 pub same-table : (capacity : ℕ) (call : Call) (format buffer : List ℕ) (b : Database) → direct-call capacity call format buffer b .database .state .definition ≡ b .state .definition
 unfolding direct-call

@@ -1,18 +1,19 @@
-// ET: a transaction ends, and its changes stay.
+// ET: a transaction ends, and its changes stay. PE, which may come before it: the transaction is ready, and waits for ET or BT.
 ghost use Prim.Native.Nat.{_+_, _≤_, min};
 ghost use mathlib.Core.Path.{_≡_};
 ghost use lib.Dec.{eqb};
 ghost use lib.ListN.{length};
 ghost use lib.Seq.{sets};
 ghost use Rattle.lists.specs.Tests.{cond};
-ghost use Rattle.nucleus.specs.Users.{max-sequence, counted};
+ghost use Rattle.nucleus.specs.Users.{max-sequence, counted, made-ready};
 ghost use Rattle.nucleus.specs.Nucleus.{max-et-data};
-ghost use Rattle.shares.specs.Outcomes.{et-done, et-queue, et-images};
+ghost use Rattle.shares.specs.Outcomes.{et-done, et-queue, et-images, pe-done};
 use nucleus::Call;
 use nucleus::EtData;
 use nucleus::MAX_ET_DATA;
 use nucleus::MAX_SEQUENCE;
 use nucleus::Response;
+use nucleus::Transaction;
 use nucleus::User;
 use removal::Removal;
 use shares::Done;
@@ -81,4 +82,25 @@ pub fn et(
         count,
     };
     shares::good(0, gone, sequence, after)
+}
+
+fn made_ready(mut user: User) -> User
+    ensures { λ r. ⌜ r ≡ made-ready user ⌝ }
+{
+    let transaction = Transaction {
+        active: user.transaction.active,
+        begun: user.transaction.begun,
+        ready: true,
+    };
+    user.transaction = transaction;
+    user
+}
+
+// PE: the caller's transaction, which is open, is ready.
+pub fn pe(mut share: Share) -> Done
+    ensures { λ r. ⌜ r ≡ pe-done share ⌝ }
+{
+    let user = made_ready(share.user);
+    share.user = user;
+    shares::good(0, 0, 0, share)
 }

@@ -6,7 +6,7 @@ use Rattle.nucleus.specs.Responses.{refused}
 use Rattle.nucleus.specs.Target.{isn-in}
 use Rattle.nucleus.specs.declared.Call.{Call}
 use Rattle.nucleus.specs.declared.Command.{Command}
-use Rattle.nucleus.specs.declared.Command.the-variants.{Hi, Ri, L1, L4, A1, E1, N1, N2, Et, Bt, Re, Op, Cl}
+use Rattle.nucleus.specs.declared.Command.the-variants.{Hi, Ri, L1, L4, A1, E1, N1, N2, Et, Bt, Re, Op, Cl, Pe}
 use Rattle.nucleus.specs.declared.Response.the-variants.{CommandUnknown}
 use Rattle.shares.specs.Shares.{done}
 use Rattle.shares.specs.Chains.{e1-cause, a1-cause, n1-cause, n2-cause, replaced, added, free-isn}
@@ -60,3 +60,4 @@ module _ (call : Call) (most width clock : ℕ) (x : Share) (f : File) (part que
   on-file Re = none-here
   on-file Op = none-here
   on-file Cl = none-here
+  on-file Pe = none-here

@@ -71,7 +71,7 @@ pub fn on_file(
             format,
             buffer,
         ),
-        Command::Et | Command::Bt | Command::Re | Command::Op | Command::Cl => {
+        Command::Et | Command::Bt | Command::Re | Command::Op | Command::Cl | Command::Pe => {
             shares::refused(Response::CommandUnknown, share)
         }
     }

@@ -17,7 +17,7 @@ use Rattle.nucleus.specs.Responses.{number}
 use Rattle.nucleus.specs.Nucleus.{Nucleus, Result, max-users}
 use Rattle.database.specs.Database.{Database, in-words, direct-call}
 use Rattle.nucleus.specs.Step.{step}
-use Rattle.claim.specs.Journal.{Journal, member, new-member, has-start, in-transaction, struck, fed}
+use Rattle.claim.specs.Journal.{Journal, member, new-member, ended-member, has-start, in-transaction, struck, fed}
 use Rattle.claim.specs.Run.{World, BackOut, called, run, bt, back-outs, struck-all}
 use Rattle.claim.specs.Claim.{users-of, Chosen}
 use Rattle.claim.specs.Answers.{Answered, answers}
@@ -35,7 +35,7 @@ still-in j u v least apart h =
     let v-in : within 1 max-users v ≡ true = and-left (within 1 max-users v) (has-start (member j v .start)) h in
     let ne : u ≡ v → ⊥ = eqb-false u v apart in
     let other : v - 1 ≢ u - 1 = λ e. ne (omega (arith, e, least, within-least 1 max-users v v-in)) in
-    rw (getD-set-other (j .members) (u - 1) (v - 1) (record { limit = member j u .limit; start = none }) new-member other) h
+    rw (getD-set-other (j .members) (u - 1) (v - 1) (ended-member (member j u)) new-member other) h
 
 all-still : (j : Journal) (u : ℕ) → 1 ≤ u → (us : List ℕ) → any (eqb u) us ≡ false → all (in-transaction j) us ≡ true → all (in-transaction (struck u j)) us ≡ true
 all-still j u least [] f h = refl

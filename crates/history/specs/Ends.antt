@@ -19,12 +19,12 @@ use Rattle.transactions.specs.Theorems.{kept-act}
 use Rattle.lists.specs.Maps.{all-over}
 use Rattle.ground.specs.Ground.{laws}
 use Rattle.ground.specs.Acts.{act-end, act-back-out}
-use Rattle.nucleus.specs.Users.{is-active, ended}
+use Rattle.nucleus.specs.Users.{is-active, is-ready, ended}
 use Rattle.nucleus.specs.Nucleus.{Nucleus, max-users, user-of, with-user, with-state, entries-of}
 use Rattle.nucleus.specs.Clock.{removed, with-restored, backed-out}
 use Rattle.nucleus.specs.declared.User.{User}
 use Rattle.lists.specs.Every.{all-implies, all-set}
-use Rattle.claim.specs.Journal.{Journal, Change, member, strikes, commits, struck, log-end}
+use Rattle.claim.specs.Journal.{Journal, Change, member, ended-member, strikes, commits, struck, log-end}
 use Rattle.history.specs.Updates.{updates, logged}
 use Rattle.claim.specs.Lent.{Lent}
 use Rattle.history.specs.Kept.{Kept, Sized, People, Told, definition-of, ground-of, seen, user-sound, entry-active, change-sound, member-of}
@@ -43,10 +43,10 @@ module _ (clock : ℕ) (us : List User) (u : ℕ) (least : 1 ≤ u) (most : u �
   abbrev us′ : List User
   us′ = set us (u - 1) x
 
-  pub people-ended : (es : List Entry) → People clock us es → People clock us′ (sift (stays (All u)) es)
-  people-ended es p = record {
+  pub people-ended : is-ready x ≡ false → (es : List Entry) → People clock us es → People clock us′ (sift (stays (All u)) es)
+  people-ended unready es p = record {
     user-count = length-set us (u - 1) x ∙ full;
-    users-sound = all-set (user-sound clock) us (u - 1) x (p .users-sound) (sound-idle clock x idle);
+    users-sound = all-set (user-sound clock) us (u - 1) x (p .users-sound) (sound-idle clock x idle unready);
     entries-active =
         all-left (entry-active us) (stays (All u)) (entry-active us′) (λ e a s. active-other us full u least most x (e .user) (not-true _ s) ∙ a) es (p .entries-active);
   }
@@ -62,8 +62,8 @@ module _ (clock : ℕ) (us : List User) (u : ℕ) (least : 1 ≤ u) (most : u �
       (λ o. active-other us full u least most x (c .user) (not-true (eqb (c .user) u) (and-right (c .uncommitted) (not (eqb (c .user) u)) o))
       ∙ change-active us c h (and-left (c .uncommitted) (not (eqb (c .user) u)) o))
 
-  module _ (j : Journal) (t : Told clock us j) (same : member-of x ≡ record { limit = member j u .limit; start = none }) where
-    told-members : set (j .members) (u - 1) (record { limit = member j u .limit; start = none }) ≡ map member-of us′
+  module _ (j : Journal) (t : Told clock us j) (same : member-of x ≡ ended-member (member j u)) where
+    told-members : set (j .members) (u - 1) (ended-member (member j u)) ≡ map member-of us′
     told-members = ap (set (j .members) (u - 1)) (sym same) ∙ ap (λ ms. set ms (u - 1) (member-of x)) (t .same-members) ∙ sym (members-set us full u least most x)
 
     pub told-struck : Told clock us′ (struck u j)
@@ -97,13 +97,13 @@ module _ (capacity : ℕ) (lent : Lent ℕ) (n : Nucleus) (j : Journal) (k : Kep
   unfolding allowed
   back-out-allowed m = refl
 
-  module _ (x : User) (idle : is-active x ≡ false) (same : member-of x ≡ record { limit = member j u .limit; start = none }) where
+  module _ (x : User) (idle : is-active x ≡ false) (unready : is-ready x ≡ false) (same : member-of x ≡ ended-member (member j u)) where
     -- ET
     pub kept-ended : Kept capacity lent (with-state (with-user u x (removed (All u) n .state)) (removed (All u) n)) (log-end u j)
     unfolding removed log-end
     kept-ended = record {
       sized = sized-removed capacity lent d (n .store) (n .queue) (n .images) (n .state .count) (k .sized) (All u);
-      people = rw (entries-removed n capacity (k .sized .made) (All u)) (people-ended (n .state .clock) (n .state .users) u least most x (k .people .user-count) idle (entries-of n) (k .people));
+      people = rw (entries-removed n capacity (k .sized .made) (All u)) (people-ended (n .state .clock) (n .state .users) u least most x (k .people .user-count) idle unready (entries-of n) (k .people));
       assigned-sound = k .assigned-sound;
       data-sound = k .data-sound;
       told = told-ended (n .state .clock) (n .state .users) u least most x (k .people .user-count) idle j (k .told) same;
@@ -117,7 +117,7 @@ module _ (capacity : ℕ) (lent : Lent ℕ) (n : Nucleus) (j : Journal) (k : Kep
     unfolding removed struck
     kept-out = record {
       sized = sized-removed capacity lent d _ (n .queue) (n .images) (n .state .count) (sized-restored capacity lent d (n .store) (n .queue) (n .images) (n .state .count) (k .sized) u) (All u);
-      people = rw (entries-removed n capacity (k .sized .made) (All u)) (people-ended (n .state .clock) (n .state .users) u least most x (k .people .user-count) idle (entries-of n) (k .people));
+      people = rw (entries-removed n capacity (k .sized .made) (All u)) (people-ended (n .state .clock) (n .state .users) u least most x (k .people .user-count) idle unready (entries-of n) (k .people));
       assigned-sound = k .assigned-sound;
       data-sound = k .data-sound;
       told = told-struck (n .state .clock) (n .state .users) u least most x (k .people .user-count) idle j (k .told) same;
@@ -128,10 +128,10 @@ module _ (capacity : ℕ) (lent : Lent ℕ) (n : Nucleus) (j : Journal) (k : Kep
 
   -- the journal has no start of him any more, and his limit still
   pub idle-member : (x : User) → is-active x ≡ false → x .session ≡ user-of n u .session → x .«time_limit» ≡ user-of n u .«time_limit»
-      → member-of x ≡ record { limit = member j u .limit; start = none }
+      → member-of x ≡ ended-member (member j u)
   idle-member x idle session limit = rw (member-is (n .state .users) u j (k .told .same-members), idle, session, limit)
 
   -- BT, a forced back-out, and the clock's
   pub kept-backed-out : Kept capacity lent (backed-out u n) (struck u j)
   unfolding backed-out removed
-  kept-backed-out = kept-out (ended (user-of n u)) refl (idle-member (ended (user-of n u)) refl refl refl)
+  kept-backed-out = kept-out (ended (user-of n u)) refl refl (idle-member (ended (user-of n u)) refl refl refl)

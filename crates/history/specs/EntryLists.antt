@@ -4,17 +4,17 @@
 use Prim.Native.Nat.{ℕ, _≤_}
 use native.Mathlib.Omega.{arith}
 use mathlib.Core.Path.{_≡_, sym, ap, subst, _∙_}
-use mathlib.Core.Bool.{false}
+use mathlib.Core.Bool.{true, false}
 use mathlib.Core.List.{List, map}
 use lib.ListN.{length, take, drop, length-map, length-take, drop-of-length-le}
 use lib.Seq.{take-take}
-use Rattle.lists.specs.Tests.{within-least, within-most}
+use Rattle.lists.specs.Tests.{within, within-least, within-most}
 use Rattle.lists.specs.Maps.{take-map}
 use Rattle.entries.specs.Entries.{pack-of, unpack-of, entries}
 use Rattle.entries.specs.declared.Entry.{Entry}
 use Rattle.ground.specs.Queue.{queue-of, holds-of}
 use Rattle.nucleus.specs.Responses.{number}
-use Rattle.nucleus.specs.Nucleus.{Nucleus, nucleus, Result, max-capacity}
+use Rattle.nucleus.specs.Nucleus.{Nucleus, nucleus, Result, max-users, max-capacity}
 use Rattle.nucleus.specs.Step.{step, set-up}
 use Rattle.nucleus.specs.declared.Call.{Call}
 use Rattle.nucleus.specs.declared.Response.the-variants.{Good}
@@ -22,7 +22,7 @@ use Rattle.database.specs.Database.{Database, fitting-in, words, in-words, with
 use Rattle.database.specs.Laws.{fitting-size}
 use Rattle.database.specs.Words.{fitting-all, fitting-whole, renewed, length-renewed, entries-renewed, same-size, same-behind, words-again}
 use Rattle.reading.specs.Grammar.{read-table}
-use Rattle.claim.specs.Journal.{Journal, new-journal, fed}
+use Rattle.claim.specs.Journal.{Journal, new-journal, is-early, fed}
 use Rattle.claim.specs.Lent.{Lent, Alike}
 use Rattle.claim.specs.Statements.{unusable}
 use Rattle.history.specs.Sizes.{alike-self}
@@ -131,6 +131,9 @@ module _ (capacity : ℕ) (lent : Lent ℕ) (b : Database) (j : Journal) (p : Pa
 
     pub usable-called : unusable (number (x .answer .response)) ≡ false
     usable-called = went .usable
+
+    pub inside-called : is-early (number (x .answer .response)) ≡ false → within 1 max-users (call .user) ≡ true
+    inside-called = went .user-inside
 
     -- "entries past these sizes are never touched"
     pub queue-called : Alike capacity (direct-call capacity call format buffer b .database .queue) (b .queue)

@@ -97,12 +97,12 @@ module _ (capacity : ℕ) (lent : Lent ℕ) (n : Nucleus) (j : Journal) (k : Kep
     where
       go : Outcome (is-active (user-of n u)) → user-sound clock x ≡ true
       go (holds a) = rw a (user-known capacity lent n j k u)
-      go (fails a) = rw a (sound-active clock (with-transaction (record { active = true; begun = clock }) (user-of n u)) (record { session = s .session; begun = omega arith; not-overdue = s .not-overdue; changing = s .changing }))
+      go (fails a) = rw a (sound-active clock (with-transaction (record { active = true; begun = clock; ready = false }) (user-of n u)) refl (record { session = s .session; begun = omega arith; not-overdue = s .not-overdue; changing = s .changing }))
 
-  x-member : member-of x ≡ record { limit = member j u .limit; start = start-at (j .clock) (member j u .start) }
+  x-member : member-of x ≡ record { limit = member j u .limit; start = start-at (j .clock) (member j u .start); ready = member j u .ready }
   x-member = rw (member-is us u j (k .told .same-members), k .told .same-clock) (go (outcome (is-active (user-of n u))))
     where
-      go : Outcome (is-active (user-of n u)) → member-of x ≡ record { limit = member-of (user-of n u) .limit; start = start-at clock (start-of (user-of n u)) }
+      go : Outcome (is-active (user-of n u)) → member-of x ≡ record { limit = member-of (user-of n u) .limit; start = start-at clock (start-of (user-of n u)); ready = member-of (user-of n u) .ready }
       go (holds a) = rw (a, a)
       go (fails a) = rw a
 

@@ -20,7 +20,7 @@ use Rattle.transactions.specs.Theorems.{Invariant}
 use Rattle.ground.specs.Keys.{isn-bound}
 use Rattle.ground.specs.Ground.{ground}
 use Rattle.ground.specs.Queue.{queue-of, Made}
-use Rattle.nucleus.specs.Users.{default-time-limit, fresh-user, is-active, is-due}
+use Rattle.nucleus.specs.Users.{default-time-limit, fresh-user, is-active, is-ready, is-due}
 use Rattle.nucleus.specs.Nucleus.{Nucleus, max-users, max-capacity, entries-of}
 use Rattle.nucleus.specs.WellMade.{assigned-made, data-made}
 use Rattle.nucleus.specs.declared.User.{User}
@@ -40,9 +40,9 @@ abbrev pub seen : (lent : Lent ℕ) (n : Nucleus) → Machine (ground-of lent n)
 seen lent n = record { store = n .store; queue = queue-of (definition-of n) (n .queue) (n .images) (n .state .count) }
 
 -- ---- users
--- whoever is in a transaction has a session, began it not after the clock, and is neither overdue nor access-only
+-- whoever is in a transaction has a session, began it not after the clock, and is neither overdue nor access-only; whoever is in none is not ready
 abbrev pub user-sound : ℕ → User → Bool
-user-sound clock u = not (is-active u) || (u .session && leb (u .transaction .begun) clock && not (u .overdue) && not (u .«access_only»))
+user-sound clock u = cond (is-active u) (u .session && leb (u .transaction .begun) clock && not (u .overdue) && not (u .«access_only»)) (not (is-ready u))
 
 -- a user of the list, from 1
 abbrev pub one-of-users : List User → ℕ → User
@@ -59,7 +59,7 @@ abbrev pub start-of : User → Option ℕ
 start-of u = cond (is-active u) (some (u .transaction .begun)) none
 
 abbrev pub member-of : User → Member
-member-of u = record { limit = cond (u .session) (u .«time_limit») default-time-limit; start = start-of u }
+member-of u = record { limit = cond (u .session) (u .«time_limit») default-time-limit; start = start-of u; ready = is-active u && is-ready u }
 
 -- ---- changes: an ISN of two bytes; uncommitted only of a user in a transaction
 abbrev pub change-sound : List User → Change → Bool

@@ -28,4 +28,5 @@ pub mod EntryLists
 pub mod Resting
 pub mod Records
 pub mod BackingOut
+pub mod Waiting
 pub mod Theorem

@@ -27,7 +27,7 @@ use Rattle.records.specs.declared.Found.{Found}
 use Rattle.records.specs.declared.Found.the-variants.{At, Nowhere}
 use Rattle.queue.specs.declared.Lookup.{Lookup}
 use Rattle.queue.specs.declared.Lookup.the-variants.{Held, Free}
-use Rattle.nucleus.specs.Commands.{commands, one-of, on-record, naming, bringing-values}
+use Rattle.nucleus.specs.Commands.{direct-commands, one-of, on-record, naming, bringing-values}
 use Rattle.nucleus.specs.Responses.{good}
 use Rattle.nucleus.specs.Nucleus.{Nucleus, Request, request, max-et-data, data-at, with-store}
 use Rattle.nucleus.specs.Target.{part-in, store-with, command-in, file-place, file, part, record-at, holder-of, target-isn, new-record}
@@ -155,6 +155,6 @@ replaced-alone f format values alone (some r) = ap some (write-none f format (al
 
 -- ---- a whole call that comes so far: no byte is changed of the store that the clock and the session left
 pub call-changes-no-byte : (capacity : ℕ) (call : Call) (format buffer : List ℕ) (n m : Nucleus) → period-alone format ≡ true
-    → admitted commands capacity call n ≡ let-in A1 m → step capacity call format buffer n .nucleus .store ≡ m .store
+    → admitted direct-commands capacity call n ≡ let-in A1 m → step capacity call format buffer n .nucleus .store ≡ m .store
 unfolding step
 call-changes-no-byte capacity call format buffer n m alone e = rw e (no-byte-changed (request capacity A1 call format buffer) m alone refl)

@@ -8,13 +8,13 @@ use lib.Dec.{eqb}
 use lib.ListN.{length, getD}
 use borrow.Author.Tests.{eqb-true, eqb-false}
 use Rattle.lists.specs.Tests.{cond, Outcome, holds, fails, outcome}
-use Rattle.nucleus.specs.Users.{fresh-user, is-active, is-due, ended, with-overdue}
+use Rattle.nucleus.specs.Users.{fresh-user, is-active, is-ready, is-due, ended, with-overdue}
 use Rattle.nucleus.specs.Nucleus.{Nucleus, max-users, user-of, with-clock, with-state, change-user}
 use Rattle.nucleus.specs.Clock.{removed, backed-out, timed-out, timed-out-from, clocked}
 use Rattle.lists.specs.Every.{all-getD, all-index}
 use Rattle.claim.specs.Journal.{Journal, member, struck, is-late, strike-late, strike-late-from, log-clock}
 use Rattle.claim.specs.Lent.{Lent}
-use Rattle.history.specs.Kept.{Kept, Rested, user-sound, member-of, start-of}
+use Rattle.history.specs.Kept.{Kept, Rested, user-sound, member-of}
 use Rattle.history.specs.People.{active-sound, sound-idle, user-own, user-other, member-is}
 use Rattle.history.specs.Keeping.{kept-like, kept-clock}
 use Rattle.history.specs.Ends.{kept-backed-out}
@@ -25,10 +25,10 @@ module _ (capacity : ℕ) (lent : Lent ℕ) where
     user-known u = all-getD (user-sound (n .state .clock)) (n .state .users) (u - 1) fresh-user (k .people .users-sound) refl
 
     -- the journal has him late where the nucleus has him due
-    pub late-as-due : (u : ℕ) → is-late (j .clock) (member j u .limit) (member j u .start) ≡ is-due (n .state .clock) (user-of n u)
+    pub late-as-due : (u : ℕ) → is-late (j .clock) (member j u) ≡ is-due (n .state .clock) (user-of n u)
     late-as-due u = rw (member-is (n .state .users) u j (k .told .same-members), k .told .same-clock) (go (outcome (is-active (user-of n u))))
       where
-        go : Outcome (is-active (user-of n u)) → is-late (n .state .clock) (member-of (user-of n u) .limit) (start-of (user-of n u)) ≡ is-due (n .state .clock) (user-of n u)
+        go : Outcome (is-active (user-of n u)) → is-late (n .state .clock) (member-of (user-of n u)) ≡ is-due (n .state .clock) (user-of n u)
         go (holds a) = rw (a, active-sound (n .state .clock) (user-of n u) (user-known u) a .session)
         go (fails a) = rw a
 
@@ -41,7 +41,7 @@ module _ (capacity : ℕ) (lent : Lent ℕ) where
       out = kept-backed-out capacity lent n j k u least most
 
       out-sound : user-sound (backed-out u n .state .clock) (with-overdue true (user-of (backed-out u n) u)) ≡ true
-      out-sound = sound-idle (backed-out u n .state .clock) (with-overdue true (user-of (backed-out u n) u)) (ap is-active out-user)
+      out-sound = sound-idle (backed-out u n .state .clock) (with-overdue true (user-of (backed-out u n) u)) (ap is-active out-user) (ap is-ready out-user)
 
       kept-timed-out : Kept capacity lent (timed-out u n) (strike-late u j)
       kept-timed-out = go (outcome (is-due (n .state .clock) (user-of n u)))

@@ -12,7 +12,7 @@ use borrow.Author.Tests.{eqb-true, eqb-false, leb-true, le-leb, not-true}
 use Rattle.lists.specs.Tests.{or-true, within, within-inside, within-least, Outcome, holds, fails, outcome, and-left, and-right}
 use Rattle.lists.specs.Maps.{map-set}
 use Rattle.ground.specs.Keys.{isn-bound}
-use Rattle.nucleus.specs.Users.{fresh-user, is-active}
+use Rattle.nucleus.specs.Users.{fresh-user, is-active, is-ready}
 use Rattle.nucleus.specs.Nucleus.{max-users}
 use Rattle.nucleus.specs.declared.User.{User}
 use Rattle.claim.specs.Journal.{Journal, Member, member, has-start, in-transaction, Change}
@@ -36,11 +36,15 @@ active-sound clock u h a =
       changing = not-true (u .«access_only») (search (and-left, and-right));
     }
 
-pub sound-active : (clock : ℕ) (u : User) → ActiveSound clock u → user-sound clock u ≡ true
-sound-active clock u a = rw (a .session, le-leb (u .transaction .begun) clock (a .begun), a .not-overdue, a .changing) (or-true (not (is-active u)))
+pub sound-active : (clock : ℕ) (u : User) → is-active u ≡ true → ActiveSound clock u → user-sound clock u ≡ true
+sound-active clock u active a = rw (active, a .session, le-leb (u .transaction .begun) clock (a .begun), a .not-overdue, a .changing)
 
-pub sound-idle : (clock : ℕ) (u : User) → is-active u ≡ false → user-sound clock u ≡ true
-sound-idle clock u h = rw h
+-- and of one in none
+pub idle-sound : (clock : ℕ) (u : User) → user-sound clock u ≡ true → is-active u ≡ false → is-ready u ≡ false
+idle-sound clock u h idle = not-true (is-ready u) (rw idle at h)
+
+pub sound-idle : (clock : ℕ) (u : User) → is-active u ≡ false → is-ready u ≡ false → user-sound clock u ≡ true
+sound-idle clock u idle unready = rw (idle, unready)
 
 -- a later clock
 pub sound-later : (clock later : ℕ) → clock ≤ later → (u : User) → user-sound clock u ≡ true → user-sound later u ≡ true
@@ -49,8 +53,8 @@ sound-later clock later m u h = go (outcome (is-active u))
     go : Outcome (is-active u) → user-sound later u ≡ true
     go (holds a) =
         let k = active-sound clock u h a in
-        sound-active later u (record { session = k .session; begun = omega (arith, k .begun, m); not-overdue = k .not-overdue; changing = k .changing })
-    go (fails a) = sound-idle later u a
+        sound-active later u a (record { session = k .session; begun = omega (arith, k .begun, m); not-overdue = k .not-overdue; changing = k .changing })
+    go (fails a) = sound-idle later u a (idle-sound clock u h a)
 
 -- ---- one change
 -- its ISN, and whose it is while it is open

@@ -10,20 +10,20 @@ use borrow.Author.Tests.{not-true, le-ltb, ltb-false, le-leb}
 use Rattle.lists.specs.Tests.{cond, Outcome, holds, fails, outcome}
 use Rattle.lists.specs.Folds.{all}
 use Rattle.removal.specs.declared.Removal.the-variants.{All}
-use Rattle.nucleus.specs.Users.{default-time-limit, or-default, fresh-user, is-active, is-due, started, ended, counted, set-session, closed}
+use Rattle.nucleus.specs.Users.{default-time-limit, or-default, fresh-user, is-active, is-ready, is-due, started, made-ready, ended, counted, set-session, closed}
 use Rattle.nucleus.specs.Nucleus.{Nucleus, Request, max-users, max-et-data, beyond-data, data-at, with-user, with-state, user-of, change-user}
 use Rattle.nucleus.specs.WellMade.{data-made}
 use Rattle.nucleus.specs.Clock.{removed, backed-out}
 use Rattle.nucleus.specs.Effects.{held, data-for, next-sequence, ended-for}
 use Rattle.nucleus.specs.declared.User.{User}
 use Rattle.lists.specs.Every.{all-set, all-getD}
-use Rattle.claim.specs.Journal.{Journal, with-member, struck, log-start, log-end, log-limit}
+use Rattle.claim.specs.Journal.{Journal, with-member, struck, log-start, log-end, log-limit, log-ready}
 use Rattle.claim.specs.Lent.{Lent}
-use Rattle.history.specs.Kept.{Kept, Rested, member-of}
-use Rattle.history.specs.People.{sound-idle, member-is}
+use Rattle.history.specs.Kept.{Kept, Rested, user-sound, member-of}
+use Rattle.history.specs.People.{active-sound, sound-active, idle-sound, sound-idle, member-is}
 use Rattle.history.specs.Keeping.{kept-user, kept-data}
 use Rattle.history.specs.Ends.{idle-member, kept-ended, kept-backed-out}
-use Rattle.history.specs.Passing.{Passed}
+use Rattle.history.specs.Passing.{Passed, user-known}
 use Rattle.history.specs.Holding.{Serving, Holdable, kept-held}
 
 -- ---- nobody is overdue, still
@@ -91,26 +91,49 @@ module _ (capacity : ℕ) (lent : Lent ℕ) (n : Nucleus) (j : Journal) (p : Pas
         record {
           kept =
               kept-data capacity lent (with-state (with-user u x (removed (All u) n .state)) (removed (All u) n)) (log-end u j)
-              (kept-ended capacity lent n j k u least most x refl (idle-member capacity lent n j k u least most x refl refl refl)) u (data-for r (data-at (n .state) u)) (data-fits h);
+              (kept-ended capacity lent n j k u least most x refl refl (idle-member capacity lent n j k u least most x refl refl refl)) u (data-for r (data-at (n .state) u)) (data-fits h);
           rested = rested-set n (p .rested) u x refl;
         }
 
     -- OP and CL, of a user in no transaction
     module _ (idle : is-active (user-of n u) ≡ false) where
+      unready : is-ready (user-of n u) ≡ false
+      unready = idle-sound (n .state .clock) (user-of n u) (user-known capacity lent n j k u) idle
+
       log-limit-is : (limit : ℕ) (x : User) → is-active x ≡ false → cond (x .session) (x .«time_limit») default-time-limit ≡ limit → log-limit u limit j ≡ with-member u (member-of x) j
       unfolding log-limit
       log-limit-is limit x out same = ap (λ m. with-member u m j) (rw (member-is (n .state .users) u j (k .told .same-members), idle, out, same))
 
-      passed-session : (limit : ℕ) (x : User) → is-active x ≡ false → cond (x .session) (x .«time_limit») default-time-limit ≡ limit
+      passed-session : (limit : ℕ) (x : User) → is-active x ≡ false → is-ready x ≡ is-ready (user-of n u) → cond (x .session) (x .«time_limit») default-time-limit ≡ limit
           → Passed capacity lent (with-state (with-user u x (n .state)) n) (log-limit u limit j)
-      passed-session limit x out same = record {
-        kept = rw (log-limit-is limit x out same) (kept-user capacity lent n j k u least most x (sound-idle (n .state .clock) x out) (out ∙ sym idle));
+      passed-session limit x out alike same = record {
+        kept = rw (log-limit-is limit x out same) (kept-user capacity lent n j k u least most x (sound-idle (n .state .clock) x out (alike ∙ unready)) (out ∙ sym idle));
         rested = rested-set n (p .rested) u x (idle-quiet n (p .rested) x out);
       }
 
       pub passed-opened : user-of n u .session ≡ true → (holding time : ℕ) (access : Bool)
           → Passed capacity lent (change-user u (set-session holding time access) n) (log-limit u (or-default default-time-limit time) j)
-      passed-opened session holding time access = passed-session (or-default default-time-limit time) (set-session holding time access (user-of n u)) idle (rw session)
+      passed-opened session holding time access = passed-session (or-default default-time-limit time) (set-session holding time access (user-of n u)) idle refl (rw session)
 
       pub passed-closed : Passed capacity lent (change-user u closed n) (log-limit u default-time-limit j)
-      passed-closed = passed-session default-time-limit (closed (user-of n u)) idle refl
+      passed-closed = passed-session default-time-limit (closed (user-of n u)) idle refl refl
+
+    -- PE, of a user in a transaction
+    module _ (active : is-active (user-of n u) ≡ true) where
+      abbrev ready-now : User
+      ready-now = made-ready (user-of n u)
+
+      ready-sound : user-sound (n .state .clock) ready-now ≡ true
+      ready-sound =
+          let a = active-sound (n .state .clock) (user-of n u) (user-known capacity lent n j k u) active in
+          sound-active (n .state .clock) ready-now active (record { session = a .session; begun = a .begun; not-overdue = a .not-overdue; changing = a .changing })
+
+      log-ready-is : log-ready u j ≡ with-member u (member-of ready-now) j
+      unfolding log-ready
+      log-ready-is = ap (λ m. with-member u m j) (rw (member-is (n .state .users) u j (k .told .same-members), active))
+
+      pub passed-ready : Passed capacity lent (change-user u made-ready n) (log-ready u j)
+      passed-ready = record {
+        kept = rw log-ready-is (kept-user capacity lent n j k u least most ready-now ready-sound refl);
+        rested = rested-set n (p .rested) u ready-now (rw active);
+      }

@@ -1,22 +1,25 @@
--- Between calls nobody is overdue: a call with clock 0 backs nobody out. A BT of a user in a transaction answers 0 then.
+-- Between calls nobody is overdue: a call with clock 0 backs nobody out. ET and BT of a user who is in a transaction after the clock answer 0.
 -- Assumes nothing.
-use Prim.Native.Nat.{ℕ, zero, suc, _+_, _-_, max}
+use Prim.Native.Nat.{ℕ, zero, suc, _+_, _-_, _≤_, max}
 use native.Mathlib.Omega.{arith}
 use mathlib.Core.Path.{_≡_, refl, ap, _∙_}
-use mathlib.Core.Bool.{true}
-use mathlib.Core.Option.{none}
-use lib.ListN.{set}
+use mathlib.Core.Bool.{true, false}
+use mathlib.Core.List.{List}
+use mathlib.Core.Option.{some}
+use lib.ListN.{length, set}
 use lib.Seq.{set-getD}
-use Rattle.lists.specs.Tests.{cond, within, and-left, and-right}
-use Rattle.nucleus.specs.Commands.{command-of, has-option}
-use Rattle.nucleus.specs.Users.{fresh-user, opening, opened, is-active}
-use Rattle.nucleus.specs.Nucleus.{Nucleus, Request, request, max-users, user-of, with-clock, with-state, change-user}
+use borrow.Author.Tests.{le-ltb}
+use Rattle.lists.specs.Tests.{cond, within, and-left, and-right, and-false}
+use Rattle.nucleus.specs.Commands.{direct-commands, command-of, one-of, on-session, serving-ready, setting-ready, has-option}
+use Rattle.nucleus.specs.Users.{fresh-user, opening, opened, is-active, is-ready}
+use Rattle.nucleus.specs.Nucleus.{Nucleus, request, max-users, max-et-data, user-of, with-clock, with-state, change-user}
 use Rattle.nucleus.specs.Clock.{timed-out-from, clocked}
-use Rattle.nucleus.specs.Rows.{first-cause, rows-usable, rows-understood, rows-last, is-overdue, session-in-transaction, access-refused, file-unknown, isn-invalid, format-refused, field-twice, record-length-refused, value-refused, none-found, held-elsewhere, presence-refused, not-held, release-refused, file-full, limit-reached, queue-full, value-taken}
-use Rattle.nucleus.specs.Effects.{effect-at, effect}
-use Rattle.nucleus.specs.Step.{Admission, let-in, admitted-session, admitted-user, admitted, unless, refusal, perform, serve, step}
+use Rattle.nucleus.specs.Rows.{rows-usable, rows-understood, is-overdue, session-in-transaction, ready-refused, access-refused, transaction-missing, file-unknown, isn-invalid, format-refused, field-twice, record-length-refused, value-refused, none-found, held-elsewhere, presence-refused, not-held, release-refused, file-full, limit-reached, queue-full, value-taken}
+use Rattle.nucleus.specs.Effects.{effect-at}
+use Rattle.nucleus.specs.Step.{Admission, let-in, admitted-session, admitted-user, admitted, perform, serve, step}
 use Rattle.nucleus.specs.declared.Call.{Call}
-use Rattle.nucleus.specs.declared.Command.the-variants.{Bt}
+use Rattle.nucleus.specs.declared.Command.{Command}
+use Rattle.nucleus.specs.declared.Command.the-variants.{Et, Bt}
 use Rattle.nucleus.specs.declared.Response.the-variants.{Good}
 use Rattle.nucleus.specs.declared.User.{User}
 use Rattle.claim.specs.Journal.{Journal, in-transaction, strike-late-from, log-clock}
@@ -24,7 +27,7 @@ use Rattle.claim.specs.Run.{BackOut, bt}
 use Rattle.claim.specs.Lent.{Lent}
 use Rattle.history.specs.Kept.{active-in}
 use Rattle.history.specs.People.{ActiveSound, active-sound, transaction-is}
-use Rattle.history.specs.Passing.{Passed, user-known, late-as-due}
+use Rattle.history.specs.Passing.{Passed, user-known, late-as-due, passed-clock}
 use Rattle.history.specs.Standing.{well-made-kept, long-kept}
 use Rattle.history.specs.Performing.{quiet-user}
 
@@ -50,62 +53,70 @@ module _ (capacity : ℕ) (lent : Lent ℕ) (n : Nucleus) (j : Journal) (p : Pas
       let same : max (j .clock) 0 ≡ j .clock = omega arith in
       ap (λ c. strike-late-from max-users 1 (record { clock = c; members = j .members; changes = j .changes })) same ∙ journal-from max-users 1
 
-  -- ---- a BT of a user whom the journal has in a transaction
-  module _ (b : BackOut) (t : in-transaction j (b .user) ≡ true) where
-    abbrev u : ℕ
-    u = b .user
+-- ---- ET or BT of a user who is in a transaction after the clock: neither 9 nor 211, 29 or 212
+module _ (capacity : ℕ) (lent : Lent ℕ) (n : Nucleus) (j : Journal) (p : Passed capacity lent n j) (call : Call) (format buffer : List ℕ) where
+  abbrev m : Nucleus
+  m = clocked (call .clock) n
 
-    abbrev x : User
-    x = user-of n u
+  abbrev x : User
+  x = user-of m (call .user)
 
-    abbrev call : Call
-    call = bt b .call
+  module _ (c : Command) (active : is-active x ≡ true) (ends : one-of serving-ready c ≡ true) (other : one-of on-session c ≡ false) where
+    sound : ActiveSound (m .state .clock) x
+    sound =
+        let q = passed-clock capacity lent (call .clock) n j (p .kept) in
+        active-sound (m .state .clock) x (user-known capacity lent m (log-clock (call .clock) j) (q .kept) (call .user)) active
 
-    both-active : active-in (n .state .users) u ≡ true
-    both-active = rw (transaction-is (n .state .users) u j (p .kept .told .same-members)) at t
-
-    pub inside : within 1 max-users u ≡ true
-    inside = and-left (within 1 max-users u) (is-active x) both-active
-
-    sound : ActiveSound (n .state .clock) x
-    sound = active-sound (n .state .clock) x (user-known capacity lent n j (p .kept) u) (and-right (within 1 max-users u) (is-active x) both-active)
-
-    abbrev r : Request
-    r = request capacity Bt call (b .format) (b .buffer)
-
-    -- no row refuses it
-    no-row-bt : first-cause (rows-last r n) ≡ none
-    unfolding file-unknown isn-invalid format-refused field-twice record-length-refused value-refused none-found held-elsewhere presence-refused not-held release-refused file-full limit-reached queue-full value-taken
-    no-row-bt = refl
-
-    performed-bt : perform r n .answer .response ≡ Good
-    unfolding perform effect-at
-    performed-bt = ap (λ c. unless c (refusal (b .buffer) n) (effect r n) .answer .response) no-row-bt
-
-    -- nor before those rows: his session is open
-    opened-same : change-user u opened n ≡ n
+    -- his session is open
+    opened-same : change-user (call .user) opened m ≡ m
     opened-same =
         let same : opened x ≡ x = ap (λ b. cond b x opening) (sound .session) in
         ap (λ us. with-state (record {
-          definition = n .state .definition;
-          clock = n .state .clock;
+          definition = m .state .definition;
+          clock = m .state .clock;
           users = us;
-          «et_data» = n .state .«et_data»;
-          «last_assigned» = n .state .«last_assigned»;
-          count = n .state .count;
-        }) n) (ap (set (n .state .users) (u - 1)) same ∙ set-getD (n .state .users) (u - 1) fresh-user)
+          «et_data» = m .state .«et_data»;
+          «last_assigned» = m .state .«last_assigned»;
+          count = m .state .count;
+        }) m) (ap (set (m .state .users) (call .user - 1)) same ∙ set-getD (m .state .users) (call .user - 1) fresh-user)
 
-    let-in-session : admitted-session Bt call n ≡ let-in Bt n
-    unfolding admitted-session access-refused
-    let-in-session = rw (sound .changing)
+    let-in-session : admitted-session c call m ≡ let-in c m
+    unfolding admitted-session ready-refused access-refused transaction-missing
+    let-in-session = rw (ends, and-false (is-ready x), sound .changing, active, and-false (one-of setting-ready c))
 
-    let-in-user : admitted-user Bt call n ≡ let-in Bt n
+    let-in-user : admitted-user c call m ≡ let-in c m
     unfolding admitted-user is-overdue session-in-transaction
-    let-in-user = rw (sound .not-overdue) (ap (admitted-session Bt call) opened-same ∙ let-in-session)
+    let-in-user = rw (sound .not-overdue, other) (ap (admitted-session c call) opened-same ∙ let-in-session)
 
-    -- so it is answered 0
-    pub bt-good : step capacity call (b .format) (b .buffer) n .answer .response ≡ Good
-    unfolding step admitted rows-usable rows-understood command-of has-option
-    bt-good =
-        rw (p .kept .sized .valid, long-kept capacity lent n j (p .kept), well-made-kept capacity lent n j (p .kept), inside)
-        (ap (λ (a : Admission). serve a capacity call (b .format) (b .buffer) .answer .response) (ap (admitted-user Bt call) nucleus-rests ∙ let-in-user) ∙ performed-bt)
+    -- so it is answered as its own rows have it
+    pub performed-good : command-of direct-commands (call .command) ≡ some c → has-option c (call .option) ≡ true → within 1 max-users (call .user) ≡ true
+        → perform (request capacity c call format buffer) m .answer .response ≡ Good → step capacity call format buffer n .answer .response ≡ Good
+    unfolding step admitted rows-usable rows-understood
+    performed-good known named inside good =
+        rw (p .kept .sized .valid, long-kept capacity lent n j (p .kept), well-made-kept capacity lent n j (p .kept), known, named, inside)
+        (ap (λ (a : Admission). serve a capacity call format buffer .answer .response) let-in-user ∙ good)
+
+-- no row refuses BT; of ET's one asks for too much data
+module _ (capacity : ℕ) (call : Call) (format buffer : List ℕ) (n : Nucleus) where
+  pub bt-performed : perform (request capacity Bt call format buffer) n .answer .response ≡ Good
+  unfolding perform effect-at file-unknown isn-invalid format-refused field-twice record-length-refused value-refused none-found held-elsewhere presence-refused not-held release-refused file-full limit-reached queue-full value-taken
+  bt-performed = refl
+
+  pub et-performed : length buffer ≤ max-et-data → perform (request capacity Et call format buffer) n .answer .response ≡ Good
+  unfolding perform effect-at file-unknown isn-invalid format-refused field-twice record-length-refused value-refused none-found held-elsewhere presence-refused not-held release-refused file-full limit-reached queue-full value-taken
+  et-performed h = rw (le-ltb max-et-data (length buffer) h)
+
+-- ---- a BT, clock 0, of a user whom the journal has in a transaction
+module _ (capacity : ℕ) (lent : Lent ℕ) (n : Nucleus) (j : Journal) (p : Passed capacity lent n j) (b : BackOut) (t : in-transaction j (b .user) ≡ true) where
+  both-active : active-in (n .state .users) (b .user) ≡ true
+  both-active = rw (transaction-is (n .state .users) (b .user) j (p .kept .told .same-members)) at t
+
+  pub inside : within 1 max-users (b .user) ≡ true
+  inside = and-left (within 1 max-users (b .user)) (is-active (user-of n (b .user))) both-active
+
+  pub bt-good : step capacity (bt b .call) (b .format) (b .buffer) n .answer .response ≡ Good
+  unfolding command-of has-option
+  bt-good =
+      let active = and-right (within 1 max-users (b .user)) (is-active (user-of n (b .user))) both-active in
+      performed-good capacity lent n j p (bt b .call) (b .format) (b .buffer) Bt (rw (nucleus-rests capacity lent n j p) active) refl refl refl refl inside
+      (bt-performed capacity (bt b .call) (b .format) (b .buffer) (clocked 0 n))

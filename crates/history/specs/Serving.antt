@@ -18,10 +18,10 @@ use Rattle.nucleus.specs.Responses.{number}
 use Rattle.nucleus.specs.Nucleus.{Nucleus, Request, Result, max-users, max-et-data, user-of}
 use Rattle.nucleus.specs.Target.{is-holder, is-changed, file-place, holder-of, target, target-isn, held-by-caller, new-record}
 use Rattle.nucleus.specs.Clock.{removed}
-use Rattle.nucleus.specs.Rows.{Row, first-cause, access-refused, record-length-refused, not-held, release-refused}
+use Rattle.nucleus.specs.Rows.{Row, first-cause, access-refused, transaction-missing, record-length-refused, not-held, release-refused}
 use Rattle.nucleus.specs.Effects.{held, effect-at, released, written, erased, with-last}
 use Rattle.nucleus.specs.declared.Command.{Command}
-use Rattle.nucleus.specs.declared.Command.the-variants.{Hi, Ri, L1, L4, A1, E1, N1, N2, Et, Bt, Re, Op, Cl}
+use Rattle.nucleus.specs.declared.Command.the-variants.{Hi, Ri, L1, L4, A1, E1, N1, N2, Et, Bt, Re, Op, Cl, Pe}
 use Rattle.nucleus.specs.declared.Response.{Response}
 use Rattle.claim.specs.Journal.{Journal, add, is-early, log-start, log-change, log-answered}
 use Rattle.claim.specs.Lent.{Lent}
@@ -31,7 +31,7 @@ use Rattle.history.specs.Keeping.{kept-assigned}
 use Rattle.history.specs.Passing.{Passed}
 use Rattle.history.specs.Holding.{Serving, holdable-at}
 use Rattle.history.specs.Releasing.{kept-release, kept-release-all}
-use Rattle.history.specs.Performing.{passed-held, passed-backed-out, passed-ended, passed-opened, passed-closed}
+use Rattle.history.specs.Performing.{passed-held, passed-backed-out, passed-ended, passed-opened, passed-closed, passed-ready}
 use Rattle.history.specs.Changes.{Changes, replaces, erases, adds, adds-there, rest-fails, Aim, aim, aim-given}
 use Rattle.history.specs.ChangesLogged.{update-of, slot-of}
 use Rattle.history.specs.ChangesEffect.{Changed, written-changed, erased-changed}
@@ -56,20 +56,21 @@ front-fails true b t h = not-both b t h
 front-fails false b t h = refl
 
 -- ---- a caller whose session is open
-pub record Ready (r : Request) (n : Nucleus) : Type 0 where
+pub record Caller (r : Request) (n : Nucleus) : Type 0 where
   pub least : 1 ≤ r .call .user
   pub most : r .call .user ≤ max-users
   pub session : user-of n (r .call .user) .session ≡ true
   pub not-overdue : user-of n (r .call .user) .overdue ≡ false
   pub idle : one-of on-session (r .command) ≡ true → is-active (user-of n (r .call .user)) ≡ false
   pub access : access-refused (r .command) (r .call) n ≡ false
+  pub present : transaction-missing (r .command) (r .call) n ≡ false
 
 -- what a call answers and leaves, beside what the journal makes of it
 pub record Served (lent : Lent ℕ) (r : Request) (j : Journal) (c : Command) (x : Result) : Type 0 where
   pub passed : Passed (r .capacity) lent (x .nucleus) (log-answered (some c) (r .call) (r .format) (r .buffer) (number (x .answer .response)) (x .answer .isn) j)
   pub not-early : is-early (number (x .answer .response)) ≡ false
 
-module _ (lent : Lent ℕ) (n : Nucleus) (j : Journal) (r : Request) (p : Passed (r .capacity) lent n j) (y : Ready r n) (a : Accepted r n) where
+module _ (lent : Lent ℕ) (n : Nucleus) (j : Journal) (r : Request) (p : Passed (r .capacity) lent n j) (y : Caller r n) (a : Accepted r n) where
   abbrev u : ℕ
   u = r .call .user
 
@@ -176,6 +177,11 @@ module _ (lent : Lent ℕ) (n : Nucleus) (j : Journal) (r : Request) (p : Passed
   unfolding record-length-refused
   data-short e = rw e at (a .length)
 
+  -- ---- PE: row 212
+  in-one : r .command ≡ Pe → is-active (user-of n u) ≡ true
+  unfolding transaction-missing
+  in-one e = not-false (is-active (user-of n u)) (rw e at (y .present))
+
   -- ---- each command
   pub served-effect : (c : Command) → r .command ≡ c → Served lent r j c (effect-at r isn c n)
   unfolding effect-at
@@ -195,3 +201,4 @@ module _ (lent : Lent ℕ) (n : Nucleus) (j : Journal) (r : Request) (p : Passed
     not-early = refl;
   }
   served-effect Cl e = record { passed = passed-closed (r .capacity) lent n j p r (y .least) (y .most) (y .idle (rw e)); not-early = refl }
+  served-effect Pe e = record { passed = passed-ready (r .capacity) lent n j p r (y .least) (y .most) (in-one e); not-early = refl }

@@ -22,7 +22,7 @@ use Rattle.lists.specs.Every.{all-implies, all-index}
 use Rattle.claim.specs.Journal.{Journal}
 use Rattle.claim.specs.Lent.{Lent}
 use Rattle.history.specs.Kept.{Kept, definition-of, user-sound, entry-active}
-use Rattle.history.specs.People.{active-sound}
+use Rattle.history.specs.People.{active-sound, idle-sound}
 
 -- an entry of the table is within its file
 within-of-known : (d : Definition) (file isn : ℕ) → isn < isn-bound → known d (key file isn) ≡ true → isn-found d (place d file) isn ≡ true
@@ -34,7 +34,7 @@ made-of-sound clock u h = go (outcome (is-active u))
   where
     go : Outcome (is-active u) → user-made clock u ≡ true
     go (holds a) = let s = active-sound clock u h a in rw (a, s .session, le-leb (u .transaction .begun) clock (s .begun))
-    go (fails a) = rw a
+    go (fails a) = rw (a, idle-sound clock u h a)
 
 module _ (capacity : ℕ) (lent : Lent ℕ) (n : Nucleus) (j : Journal) (k : Kept capacity lent n j) where
   entries-made : all (entry-made (n .state)) (entries-of n) ≡ true

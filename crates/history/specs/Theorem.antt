@@ -1,33 +1,45 @@
 -- Requirement 3 and the statements beside it, proved.
 -- Assumes nothing.
-use Prim.Native.Nat.{ℕ}
-use mathlib.Core.Path.{_≡_, refl, subst}
+use Prim.Native.Nat.{ℕ, _-_, _≤_}
+use native.Mathlib.Omega.{arith}
+use mathlib.Core.Path.{_≡_, refl, sym, ap, subst, _∙_}
 use mathlib.Core.Logic.{inl, inr}
-use mathlib.Core.Bool.{true, false}
-use mathlib.Core.List.{List, [], _∷_, _++_}
+use mathlib.Core.Bool.{true, false, not}
+use mathlib.Core.List.{List, [], _∷_, _++_, map}
 use mathlib.Core.Option.{Option, none, some}
-use Rattle.lists.specs.Tests.{eqb-self}
+use lib.Dec.{eqb}
+use lib.ListN.{length, length-map}
+use lib.Seq.{getD-set-same}
+use borrow.Author.Tests.{not-true}
+use Rattle.lists.specs.Tests.{eqb-self, within, within-least, within-most, and-left, and-right}
 use Rattle.lists.specs.Folds.{any}
+use Rattle.lists.specs.Sift.{sift-map}
 use Rattle.definition.specs.declared.Definition.{Definition}
-use Rattle.nucleus.specs.Commands.{command-of}
-use Rattle.nucleus.specs.Nucleus.{Given}
+use Rattle.nucleus.specs.Commands.{code, command-of, has-option}
+use Rattle.nucleus.specs.Users.{is-active, is-ready}
+use Rattle.nucleus.specs.Responses.{number}
+use Rattle.nucleus.specs.Nucleus.{Nucleus, Given, max-users, user-of}
+use Rattle.nucleus.specs.Clock.{clocked}
 use Rattle.entries.specs.declared.Entry.{Entry}
 use Rattle.database.specs.Database.{in-words, direct-call, set-up-database}
 use Rattle.nucleus.specs.declared.Call.{Call}
+use Rattle.nucleus.specs.declared.Command.the-variants.{Et, Bt, Pe}
 use Rattle.nucleus.specs.declared.Response.the-variants.{Good}
-use Rattle.claim.specs.Journal.{Change, add, apply, log-clock, log-start, log-change, fed, replayed, record-told}
-use Rattle.claim.specs.Run.{World, BackOut, called, run, begin, bt, back-outs, struck-all}
+use Rattle.claim.specs.Journal.{Change, Member, new-member, member, commits, add, apply, is-early, log-clock, log-start, log-change, log-end, log-ready, fed, replayed, record-told}
+use Rattle.claim.specs.Run.{World, BackOut, call-given, called, run, begin, bt, back-outs, struck-all}
 use Rattle.claim.specs.Answers.{Answered, answers}
 use Rattle.claim.specs.Lent.{Lent, Alike}
 use Rattle.claim.specs.Claim.{SameRecords, UniqueValues, Chosen, Requirement3}
-use Rattle.claim.specs.Statements.{unusable, NeverUnusable, StaysUsable, SameTransactions, BackOutsAccepted, BackOutsAreCalls, BackOutsAreFed, JournalOfAnswers, record-added, AddedTold, NeverTouched}
-use Rattle.history.specs.Kept.{Kept}
-use Rattle.history.specs.People.{transaction-is}
-use Rattle.history.specs.Passing.{Passed}
+use Rattle.claim.specs.Statements.{unusable, NeverUnusable, StaysUsable, SameTransactions, BackOutsAccepted, BackOutsAreCalls, BackOutsAreFed, JournalOfAnswers, record-added, AddedTold, NeverTouched, response-to, of-others, IsEt, IsBt, changes-of, ReadyEnds}
+use Rattle.history.specs.Kept.{Kept, member-of}
+use Rattle.history.specs.People.{transaction-is, member-is}
+use Rattle.history.specs.Passing.{Passed, passed-clock}
 use Rattle.history.specs.Standing.{well-made-kept, long-kept}
 use Rattle.history.specs.Sizes.{alike-self, alike-then}
-use Rattle.history.specs.EntryLists.{passed-called, usable-called, queue-called, lent-words, passed-set-up}
+use Rattle.history.specs.EntryLists.{passed-called, usable-called, inside-called, queue-called, lent-words, passed-set-up}
 use Rattle.history.specs.Records.{same-records, unique-values}
+use Rattle.history.specs.Resting.{performed-good, bt-performed, et-performed}
+use Rattle.history.specs.Waiting.{Awaited, awaited-still, awaited-then, awaited-clock, awaited-fed}
 use Rattle.history.specs.BackingOut.{passed-back-outs, queue-back-outs, accepted-back-outs, fed-back-outs}
 
 -- ---- a list of calls
@@ -162,4 +174,97 @@ never-touched capacity table store queue images calls bs good chosen =
       store-past = past .store-past;
       queue-past = queue-end capacity table store queue images calls good bs chosen;
       images-past = past .images-past;
+    }
+
+-- ---- a user whom a PE answered 0 has set ready
+module _ (capacity : ℕ) (lent : Lent ℕ) where
+  -- he is in a transaction, and so he is after the clock of any call
+  module _ (w : World) (p : InWords capacity lent w) (g : Given) (ready : member (w .journal) (g .call .user) .ready ≡ true) (inside : within 1 max-users (g .call .user) ≡ true) where
+    abbrev n : Nucleus
+    n = in-words capacity (w .database)
+
+    abbrev u : ℕ
+    u = g .call .user
+
+    abbrev clock-awaited : Awaited u (w .journal) (log-clock (g .call .clock) (w .journal))
+    clock-awaited = awaited-clock u (within-least 1 max-users u inside) (g .call .clock) (w .journal) ready
+
+    active-then : is-active (user-of (clocked (g .call .clock) n) u) ≡ true
+    active-then =
+        let q = passed-clock capacity lent (g .call .clock) n (w .journal) (p .kept) in
+        let x = user-of (clocked (g .call .clock) n) u in
+        let same = sym (member-is (clocked (g .call .clock) n .state .users) u (log-clock (g .call .clock) (w .journal)) (q .kept .told .same-members)) ∙ clock-awaited .same-member in
+        and-left (is-active x) (is-ready x) (ap (λ (m : Member). m .ready) same ∙ ready)
+
+    et-accepted : IsEt g → response-to capacity g w ≡ 0
+    unfolding direct-call command-of has-option
+    et-accepted e =
+        ap number
+        (performed-good capacity lent n (w .journal) p (g .call) (g .format) (g .buffer) Et active-then refl refl (rw (e .command)) (rw (e .option)) inside
+        (et-performed capacity (g .call) (g .format) (g .buffer) (clocked (g .call .clock) n) (e .fits)))
+
+    bt-accepted : IsBt g → response-to capacity g w ≡ 0
+    unfolding direct-call command-of has-option
+    bt-accepted e =
+        ap number
+        (performed-good capacity lent n (w .journal) p (g .call) (g .format) (g .buffer) Bt active-then refl refl (rw (e .command)) (rw (e .option)) inside
+        (bt-performed capacity (g .call) (g .format) (g .buffer) (clocked (g .call .clock) n)))
+
+    -- what ET makes of his changes
+    et-told : IsEt g → changes-of u (called capacity g w .journal) ≡ map (commits u) (changes-of u (w .journal))
+    unfolding fed command-of log-end
+    et-told e =
+        rw (et-accepted e, e .command)
+        (sift-map (λ (c : Change). eqb (c .user) u) (commits u) (λ c. refl) (log-clock (g .call .clock) (w .journal) .changes) ∙ ap (map (commits u)) (clock-awaited .same-changes))
+
+  -- calls of others
+  awaited-run : (v : ℕ) → 1 ≤ v → (gs : List Given) (w : World) → InWords capacity lent w → member (w .journal) v .ready ≡ true → of-others v gs ≡ true
+      → Awaited v (w .journal) (run capacity gs w .journal)
+  unfolding run direct-call
+  awaited-run v least [] w p ready others = awaited-still v (w .journal)
+  awaited-run v least (g ∷ gs) w p ready others =
+      let r = call-given capacity g w .answer in
+      let apart = not-true (eqb (g .call .user) v) (and-left (not (eqb (g .call .user) v)) (of-others v gs) others) in
+      let known : is-early (number (r .response)) ≡ false → 1 ≤ g .call .user = λ late. within-least 1 max-users (g .call .user) (inside-called capacity lent (w .database) (w .journal) p (g .call) (g .format) (g .buffer) late) in
+      let first = awaited-fed v least (g .call) (g .format) (g .buffer) (r .isn) apart (number (r .response)) (w .journal) ready known in
+      awaited-then v (w .journal) (called capacity g w .journal) _ first
+      (awaited-run v least gs (called capacity g w) (passed-next capacity lent g w p) (ap (λ (m : Member). m .ready) (first .same-member) ∙ ready)
+      (and-right (not (eqb (g .call .user) v)) (of-others v gs) others))
+
+  -- PE itself
+  module _ (w : World) (p : InWords capacity lent w) (g : Given) (command : g .call .command ≡ code Pe) (good : response-to capacity g w ≡ 0) where
+    pe-inside : within 1 max-users (g .call .user) ≡ true
+    unfolding direct-call
+    pe-inside = inside-called capacity lent (w .database) (w .journal) p (g .call) (g .format) (g .buffer) (ap is-early good)
+
+    pe-ready : member (called capacity g w .journal) (g .call .user) .ready ≡ true
+    unfolding fed command-of log-ready
+    pe-ready =
+        let j = log-clock (g .call .clock) (w .journal) in
+        let k = passed-clock capacity lent (g .call .clock) (in-words capacity (w .database)) (w .journal) (p .kept) .kept in
+        let full : length (j .members) ≡ max-users = ap length (k .told .same-members) ∙ length-map (clocked (g .call .clock) (in-words capacity (w .database)) .state .users) member-of ∙ k .people .user-count in
+        rw (good, command)
+        (ap (λ (m : Member). m .ready)
+        (getD-set-same (j .members) (g .call .user - 1) _ new-member
+        (omega (arith, full, within-least 1 max-users (g .call .user) pe-inside, within-most 1 max-users (g .call .user) pe-inside))))
+
+pub ready-ends : ReadyEnds
+ready-ends capacity table store queue images calls others pe good command accepted apart =
+    let lent = lent-words capacity table store queue images good in
+    let w = run capacity calls (begin capacity store queue images table) in
+    let p = passed-end capacity table store queue images calls good in
+    let u = pe .call .user in
+    let before = called capacity pe w in
+    let now = run capacity others before in
+    let inside = pe-inside capacity lent w p pe command accepted in
+    let started = passed-next capacity lent pe w p in
+    let ready = pe-ready capacity lent w p pe command accepted in
+    let waited = awaited-run capacity lent u (within-least 1 max-users u inside) others before started ready apart in
+    let still = passed-run capacity lent others before started in
+    let ready-now = ap (λ (m : Member). m .ready) (waited .same-member) ∙ ready in
+    record {
+      et-good = λ g same e. et-accepted capacity lent now still g (rw same ready-now) (rw same inside) e;
+      all-stand = λ g same e. subst (λ v. changes-of v (called capacity g now .journal) ≡ map (commits v) (changes-of v (now .journal))) same (et-told capacity lent now still g (rw same ready-now) (rw same inside) e)
+          ∙ ap (map (commits u)) (waited .same-changes);
+      bt-good = λ g same e. bt-accepted capacity lent now still g (rw same ready-now) (rw same inside) e;
     }

@@ -26,6 +26,7 @@ fn started(mut user: User, clock: u32) -> User
     let transaction = Transaction {
         active: true,
         begun: clock,
+        ready: false,
     };
     user.transaction = transaction;
     user

@@ -9,7 +9,7 @@ use Rattle.entries.specs.declared.Entry.{Entry}
 use Rattle.reading.specs.Grammar.{read-table}
 use Rattle.nucleus.specs.Responses.{number}
 use Rattle.nucleus.specs.declared.Response.{Response}
-use Rattle.nucleus.specs.declared.Response.the-variants.{Good, DefinitionInvalid, BufferTooShort, StateInvalid, CommandUnknown, UserUnknown, BackedOut, AccessOnly, FileUnknown, IsnInvalid, FormatInvalid, FieldTwice, RecordLength, ValueInvalid, NotFound, HeldByAnother, Presence, NotHeld, AlreadyChanged, FileFull, HoldLimit, QueueFull, ValueTaken}
+use Rattle.nucleus.specs.declared.Response.the-variants.{Good, DefinitionInvalid, BufferTooShort, StateInvalid, CommandUnknown, UserUnknown, BackedOut, TransactionReady, AccessOnly, NoTransaction, FileUnknown, IsnInvalid, FormatInvalid, FieldTwice, RecordLength, ValueInvalid, NotFound, HeldByAnother, Presence, NotHeld, AlreadyChanged, FileFull, HoldLimit, QueueFull, ValueTaken}
 use Rattle.database.specs.Database.{Database, database, Reply, direct-call, set-up-database}
 use Rattle.kept_states.specs.KeptStates.{thawed, answered, left-by}
 use Rattle.kept_setup.specs.KeptSetup.{kept-set-up}
@@ -69,7 +69,9 @@ number-good StateInvalid h = absurd (omega (arith, h))
 number-good CommandUnknown h = absurd (omega (arith, h))
 number-good UserUnknown h = absurd (omega (arith, h))
 number-good BackedOut h = absurd (omega (arith, h))
+number-good TransactionReady h = absurd (omega (arith, h))
 number-good AccessOnly h = absurd (omega (arith, h))
+number-good NoTransaction h = absurd (omega (arith, h))
 number-good FileUnknown h = absurd (omega (arith, h))
 number-good IsnInvalid h = absurd (omega (arith, h))
 number-good FormatInvalid h = absurd (omega (arith, h))

@@ -6,7 +6,7 @@ ghost use mathlib.Core.Option.{some};
 ghost use Prim.Native.Nat.{_+_, _*_, _≤_, _<_};
 ghost use lib.Dec.{eqb};
 ghost use lib.ListN.{length};
-ghost use Rattle.nucleus.specs.Commands.{commands, command-of};
+ghost use Rattle.nucleus.specs.Commands.{direct-commands, command-of};
 ghost use Rattle.nucleus.specs.Line.{digit, decimal, hexadecimal, shows, numbers-part, line-of};
 ghost use Rattle.lines.specs.Lines.{Within, Put, Front, put-length, put-front};
 use codes::Decoded;
@@ -75,7 +75,7 @@ fn put_hexadecimal(bytes: &[u8], at: usize, out: &mut [u8]) -> usize
     to
 }
 
-// The commands that read.
+// The direct-commands that read.
 fn reads(command: Command) -> bool
     ensures { λ r. ⌜ r ≡ shows (some command) ⌝ }
 {
@@ -87,7 +87,7 @@ fn reads(command: Command) -> bool
 
 // Whether the bytes that a call wrote stand in its line.
 fn shows(letters: [u8; 2], quantity: usize) -> bool
-    ensures { λ r. ⌜ r ≡ (shows (command-of commands letters) && not (eqb quantity 0)) ⌝ }
+    ensures { λ r. ⌜ r ≡ (shows (command-of direct-commands letters) && not (eqb quantity 0)) ⌝ }
 {
     if quantity == 0 {
         return false;

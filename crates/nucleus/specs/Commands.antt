@@ -1,20 +1,28 @@
 -- The table of commands, groups of them that rules speak of, and the options named for each (document 01, 'One call').
 use Prim.Native.Nat.{ℕ}
 use mathlib.Core.Bool.{Bool, _&&_, _||_}
-use mathlib.Core.List.{List, [], _∷_, map}
+use mathlib.Core.List.{List, [], _∷_, _++_, map}
 use mathlib.Core.Option.{Option, none, some}
 use lib.Dec.{eqb}
 use lib.ListN.{getD}
 use Rattle.lists.specs.Tests.{cond, eqbs}
 use Rattle.lists.specs.Folds.{any}
 use Rattle.nucleus.specs.declared.Command.{Command}
-use Rattle.nucleus.specs.declared.Command.the-variants.{Hi, Ri, L1, L4, A1, E1, N1, N2, Et, Bt, Re, Op, Cl}
+use Rattle.nucleus.specs.declared.Command.the-variants.{Hi, Ri, L1, L4, A1, E1, N1, N2, Et, Bt, Re, Op, Cl, Pe}
 
 -- "the table of commands HI RI L1 L4 A1 E1 N1 N2 ET BT RE OP CL"
 abbrev pub commands : List Command
 commands = Hi ∷ Ri ∷ L1 ∷ L4 ∷ A1 ∷ E1 ∷ N1 ∷ N2 ∷ Et ∷ Bt ∷ Re ∷ Op ∷ Cl ∷ []
 
--- its place there, from 1
+-- commands that came later, of a table of their own behind that one. Document 02 orders them, No. 14: "S1, S4, S8, L9, L3, SP, RP, PE"
+abbrev pub later-commands : List Command
+later-commands = Pe ∷ []
+
+-- what a direct call may be
+abbrev pub direct-commands : List Command
+direct-commands = commands ++ later-commands
+
+-- its place among these, from 1
 abbrev pub place-of : Command → ℕ
 place-of Hi = 1
 place-of Ri = 2
@@ -29,6 +37,7 @@ place-of Bt = 10
 place-of Re = 11
 place-of Op = 12
 place-of Cl = 13
+place-of Pe = 14
 
 -- its two letters, in ASCII
 abbrev pub code : Command → List ℕ
@@ -45,8 +54,9 @@ code Bt = 66 ∷ 84 ∷ []
 code Re = 82 ∷ 69 ∷ []
 code Op = 79 ∷ 80 ∷ []
 code Cl = 67 ∷ 76 ∷ []
+code Pe = 80 ∷ 69 ∷ []
 
--- the code at a place, from 0; zeros past the table's end
+-- the code at a place of the table of commands, from 0; zeros past its end
 unfoldable pub code-at : ℕ → List ℕ
 code-at place = getD (map code commands) place (0 ∷ 0 ∷ [])
 
@@ -99,6 +109,14 @@ reading-values = L1 ∷ L4 ∷ []
 -- that open or close a session
 abbrev pub on-session : List Command
 on-session = Op ∷ Cl ∷ []
+
+-- that a user whose transaction is ready may call: "he may only send ET or BT"
+abbrev pub serving-ready : List Command
+serving-ready = Et ∷ Bt ∷ []
+
+-- that sets a transaction ready
+abbrev pub setting-ready : List Command
+setting-ready = Pe ∷ []
 
 -- that an access-only user may call
 abbrev pub serving-access-only : List Command

@@ -1,4 +1,4 @@
--- What each of the thirteen commands does where no row of the response table holds (document 01, 'Hold, change, end').
+-- What each command does where no row of the response table holds (document 01, 'Hold, change, end'; PE: document 02, No. 12).
 use Prim.Native.Nat.{ℕ, _+_, _-_, min}
 use mathlib.Core.Bool.{false}
 use mathlib.Core.List.{List}
@@ -18,14 +18,14 @@ use Rattle.queue.specs.declared.Lookup.{Lookup}
 use Rattle.queue.specs.declared.Lookup.the-variants.{Held, Free}
 use Rattle.removal.specs.declared.Removal.the-variants.{One, Unchanged, All}
 use Rattle.nucleus.specs.Commands.{option-A}
-use Rattle.nucleus.specs.Users.{max-sequence, set-session, closed, counted, started, ended}
+use Rattle.nucleus.specs.Users.{max-sequence, set-session, closed, counted, started, made-ready, ended}
 use Rattle.nucleus.specs.Responses.{good}
 use Rattle.nucleus.specs.Nucleus.{Nucleus, Request, Result, result, data-at, with-data, with-last-assigned, with-count, with-state, with-store, width-of, user-of, change-user}
 use Rattle.nucleus.specs.Clock.{removed, backed-out}
 use Rattle.nucleus.specs.Target.{is-holder, store-with, file-place, file, part, record-at, holder-of, target-isn, new-record}
 use Rattle.nucleus.specs.declared.Answer.{Answer}
 use Rattle.nucleus.specs.declared.Command.{Command}
-use Rattle.nucleus.specs.declared.Command.the-variants.{Hi, Ri, L1, L4, A1, E1, N1, N2, Et, Bt, Re, Op, Cl}
+use Rattle.nucleus.specs.declared.Command.the-variants.{Hi, Ri, L1, L4, A1, E1, N1, N2, Et, Bt, Re, Op, Cl, Pe}
 use Rattle.nucleus.specs.declared.EtData.{EtData}
 
 module _ (r : Request) where
@@ -133,6 +133,7 @@ module _ (r : Request) where
   effect-at isn Re n = result (good 0 (data-at (n .state) user .length) 0) n (sets (r .buffer) 0 (data-bytes n))
   effect-at isn Op n = leaving (good 0 0 0) (change-user user (set-session (r .call .isn) (r .call .limit) (eqb (r .call .option) option-A)) n)
   effect-at isn Cl n = leaving (good 0 0 (user-of n user .sequence)) (change-user user closed n)
+  effect-at isn Pe n = leaving (good 0 0 0) (change-user user made-ready n)
 
   abbrev pub effect : Nucleus → Result
   effect n = effect-at (target-isn r n) (r .command) n

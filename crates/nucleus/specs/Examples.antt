@@ -5,7 +5,7 @@ use Prim.Native.Nat.{ℕ, _*_}
 use mathlib.Core.Path.{_≡_, refl}
 use mathlib.Core.Bool.{Bool, true, false}
 use mathlib.Core.List.{List, [], _∷_, _++_, map}
-use mathlib.Core.Option.{some}
+use mathlib.Core.Option.{none, some}
 use Prim.Native.String.{String}
 use lib.ListN.{replicate}
 use Rattle.lists.specs.Folds.{Each}
@@ -35,24 +35,29 @@ use Rattle.images.specs.Images.{image-has}
 use Rattle.removal.specs.Removal.{remove-queue, remove-images, remove-count}
 use Rattle.hold.specs.Hold.{put-back-in, put-back, restore}
 use Rattle.nucleus.specs.Text.{text}
-use Rattle.nucleus.specs.Commands.{commands, place-of, code, command-of, has-option, blank, option-I, option-H, option-A}
-use Rattle.nucleus.specs.Users.{opening, counted, with-transaction}
+use Rattle.nucleus.specs.Commands.{commands, direct-commands, place-of, code, command-of, has-option, blank, option-I, option-H, option-A}
+use Rattle.nucleus.specs.Users.{opening, counted, with-transaction, with-overdue, set-session}
 use Rattle.nucleus.specs.Nucleus.{Nucleus, nucleus, Given, given, with-count, with-store, change-user}
 use Rattle.nucleus.specs.WellMade.{too-short, well-made}
 use Rattle.nucleus.specs.Clock.{removed, backed-out, clocked}
 use Rattle.nucleus.specs.Target.{target, new-record}
-use Rattle.nucleus.specs.Rows.{rows-usable, rows-understood, is-overdue, session-in-transaction, access-refused, file-unknown, isn-invalid, format-refused, field-twice, record-length-refused, value-refused, none-found, held-elsewhere, presence-refused, not-held, release-refused, file-full, limit-reached, queue-full, value-taken}
+use Rattle.nucleus.specs.Rows.{rows-usable, rows-understood, is-overdue, session-in-transaction, ready-refused, access-refused, transaction-missing, file-unknown, isn-invalid, format-refused, field-twice, record-length-refused, value-refused, none-found, held-elsewhere, presence-refused, not-held, release-refused, file-full, limit-reached, queue-full, value-taken}
 use Rattle.nucleus.specs.Effects.{held, imaged, written, erased, effect-at}
 use Rattle.nucleus.specs.Step.{admitted-session, admitted-user, admitted, perform, step, set-up}
 use Rattle.nucleus.specs.Line.{hexadecimal, decimal, line-of, line}
+use Rattle.nucleus.specs.declared.User.{User}
 
--- ---- the table of commands: the places are those of the list, and each code is found again
-placed : map place-of commands ≡ numbers 13 1
+-- ---- the tables of commands: the places are those of the list, and each code is found again; PE is none of the thirteen
+placed : map place-of direct-commands ≡ numbers 14 1
 placed = refl
 
-decoded : map (λ c. command-of commands (code c)) commands ≡ map some commands
+decoded : map (λ c. command-of direct-commands (code c)) direct-commands ≡ map some direct-commands
 unfolding command-of
 decoded = refl
+
+thirteen : map (λ c. command-of commands (code c)) direct-commands ≡ map some commands ++ none ∷ []
+unfolding command-of
+thirteen = refl
 
 -- ---- a list of calls, each with its buffers, and the lines that it prints
 abbrev capacity : ℕ
@@ -241,6 +246,67 @@ assorted-calls =
     sent "ET" blank 1 0 0 [] (text "OK") ∷
     sent "RE" blank 1 0 0 [] (0 ∷ 0 ∷ []) ∷ []
 
+-- a hold and a record at clock 0, then PE; another user at 901, when the transaction is more than 900 old
+ready-calls : List Given
+ready-calls =
+    sent "HI" blank 1 2 0 [] [] ∷
+    sent "N1" blank 1 0 0 (text "RC,HH.") (text "2AB") ∷
+    sent "PE" blank 1 0 0 [] [] ∷
+    sent "L1" blank 2 1 901 (text "RC.") (0 ∷ []) ∷
+    sent "ET" blank 1 0 901 [] [] ∷
+    sent "L1" blank 2 1 901 (text "RC,HH.") (0 ∷ 0 ∷ 0 ∷ []) ∷ []
+
+-- what a ready user may send, and after his ET
+only-ending-calls : List Given
+only-ending-calls =
+    sent "HI" blank 1 1 0 [] [] ∷
+    sent "PE" blank 1 0 0 [] [] ∷
+    sent "L1" blank 1 1 0 (text "RC.") (0 ∷ []) ∷
+    sent "PE" blank 1 0 0 [] [] ∷
+    sent "RE" blank 1 0 0 [] [] ∷
+    sent "RI" blank 1 0 0 [] [] ∷
+    sent "ET" blank 1 0 0 [] [] ∷
+    sent "HI" blank 1 2 0 [] [] ∷ []
+
+-- a ready user's unknown command, an option that is not named, and an ET with too much data
+refused-ready-calls : List Given
+refused-ready-calls =
+    sent "HI" blank 1 1 0 [] [] ∷
+    sent "PE" blank 1 0 0 [] [] ∷
+    sent "PR" blank 1 0 0 [] [] ∷
+    sent "HI" option-H 1 1 0 [] [] ∷
+    sent "ET" blank 1 0 0 [] (replicate 65 0) ∷
+    sent "HI" blank 1 2 0 [] [] ∷
+    sent "ET" blank 1 0 0 [] [] ∷ []
+
+-- a ready user's BT, or OP or CL, and what is left: the record is gone, and so is ready
+abbrev ready-then : String → List Given
+ready-then command =
+    sent "N1" blank 1 0 0 (text "RC,HH.") (text "2AB") ∷
+    sent "PE" blank 1 0 0 [] [] ∷
+    sent command blank 1 0 0 [] [] ∷
+    sent "L1" blank 1 1 0 (text "RC.") (0 ∷ []) ∷ []
+
+-- PE of a user who never called, after his ET, with an option, and of an access-only user
+no-transaction-calls : List Given
+no-transaction-calls =
+    sent "PE" blank 1 0 0 [] [] ∷
+    sent "HI" blank 1 1 0 [] [] ∷
+    sent "ET" blank 1 0 0 [] [] ∷
+    sent "PE" blank 1 0 0 [] [] ∷
+    sent "PE" option-H 1 0 0 [] [] ∷
+    sent "OP" option-A 1 0 0 [] [] ∷
+    sent "PE" blank 1 0 0 [] [] ∷ []
+
+-- a transaction after a ready one is not ready
+ready-once-calls : List Given
+ready-once-calls =
+    sent "HI" blank 1 1 0 [] [] ∷
+    sent "PE" blank 1 0 0 [] [] ∷
+    sent "ET" blank 1 0 0 [] [] ∷
+    sent "HI" blank 1 1 0 [] [] ∷
+    sent "ET" blank 1 0 901 [] [] ∷ []
+
 -- ---- states that nobody set up
 -- user 1 has counted so many transactions
 abbrev counted-to : ℕ → Nucleus → Nucleus
@@ -264,8 +330,12 @@ held-entry user = record { user = user; file = 1; isn = 1; changed = false; exis
 
 abbrev with-held : ℕ → Bool → Nucleus → Nucleus
 with-held user active n =
-    let m = change-user 1 (λ u. with-transaction (record { active = active; begun = 0 }) opening) n in
+    let m = change-user 1 (λ u. with-transaction (record { active = active; begun = 0; ready = false }) opening) n in
     nucleus (with-count 1 (m .state)) (m .store) (append (m .queue) 0 (held-entry user)) (m .images)
+
+-- user 1 is ready, in a transaction or not, and somebody made more of him
+abbrev with-ready : Bool → (User → User) → Nucleus → Nucleus
+with-ready active more n = change-user 1 (λ u. more (with-transaction (record { active = active; begun = 0; ready = true }) opening)) n
 
 -- ---- the rows
 record Row : Type 0 where
@@ -359,6 +429,52 @@ rows =
           printed-on (with-store unstored-store) packed-table (sent "A1" option-H 1 1 0 (text ".") [] ∷ sent "L1" blank 1 1 0 (text "PA.") (0 ∷ 0 ∷ []) ∷ []);
       expected = text "0 1 0 0" ∷ text "0 1 2 0 001C" ∷ [];
     } ∷
+    -- document 02, No. 12: "time doesn't back him out": at 901 user 2 finds the record of user 1, whose ET keeps it
+    record {
+      computed = printed house-table ready-calls;
+      expected = text "0 2 0 0" ∷ text "0 1 0 0" ∷ text "0 0 0 0" ∷ text "0 1 1 0 32" ∷ text "0 0 2 1" ∷ text "0 1 3 0 324142" ∷ [];
+    } ∷
+    -- nor 10,000 seconds later; but a PE that comes late finds its user backed out
+    record {
+      computed = printed house-table (sent "HI" blank 1 1 0 [] [] ∷ sent "PE" blank 1 0 900 [] [] ∷ sent "ET" blank 1 0 10000 [] [] ∷ []);
+      expected = text "0 1 0 0" ∷ text "0 0 0 0" ∷ text "0 0 1 1" ∷ [];
+    } ∷
+    record {
+      computed = printed house-table (sent "HI" blank 1 1 0 [] [] ∷ sent "PE" blank 1 0 901 [] [] ∷ []);
+      expected = text "0 1 0 0" ∷ text "9 0 0 0" ∷ [];
+    } ∷
+    -- "he may only send ET or BT"
+    record {
+      computed = printed house-table only-ending-calls;
+      expected =
+          text "0 1 0 0" ∷ text "0 0 0 0" ∷ text "211 0 0 0" ∷ text "211 0 0 0" ∷ text "211 0 0 0" ∷ text "211 0 0 0" ∷ text "0 0 1 1" ∷ text "0 2 0 0" ∷ [];
+    } ∷
+    -- 22 comes before 211, and an ET answered 53 leaves him ready
+    record {
+      computed = printed house-table refused-ready-calls;
+      expected = text "0 1 0 0" ∷ text "0 0 0 0" ∷ text "22 0 0 0" ∷ text "22 0 0 0" ∷ text "53 0 0 0" ∷ text "211 0 0 0" ∷ text "0 0 1 1" ∷ [];
+    } ∷
+    record { computed = printed house-table (ready-then "BT"); expected = text "0 1 0 0" ∷ text "0 0 0 0" ∷ text "0 0 1 0" ∷ text "113 0 0 0" ∷ [] } ∷
+    -- "OP and CL do so still": 9, and he is backed out
+    record { computed = printed house-table (ready-then "CL"); expected = text "0 1 0 0" ∷ text "0 0 0 0" ∷ text "9 0 0 0" ∷ text "113 0 0 0" ∷ [] } ∷
+    record { computed = printed house-table (ready-then "OP"); expected = text "0 1 0 0" ∷ text "0 0 0 0" ∷ text "9 0 0 0" ∷ text "113 0 0 0" ∷ [] } ∷
+    -- "212 for PE without a transaction, after 29"
+    record {
+      computed = printed house-table no-transaction-calls;
+      expected = text "212 0 0 0" ∷ text "0 1 0 0" ∷ text "0 0 1 1" ∷ text "212 0 0 0" ∷ text "22 0 0 0" ∷ text "0 0 0 0" ∷ text "29 0 0 0" ∷ [];
+    } ∷
+    -- "to that transaction's end"
+    record {
+      computed = printed house-table ready-once-calls;
+      expected = text "0 1 0 0" ∷ text "0 0 0 0" ∷ text "0 0 1 1" ∷ text "0 1 0 0" ∷ text "9 0 0 0" ∷ [];
+    } ∷
+    -- "211 for another call while ready, after 9", and before 29; a ready user without a transaction is not well made
+    record {
+      computed = printed-on (with-ready true (with-overdue true)) house-table (sent "L1" blank 1 1 0 (text "RC.") (0 ∷ []) ∷ sent "L1" blank 1 1 0 (text "RC.") (0 ∷ []) ∷ []);
+      expected = text "9 0 0 0" ∷ text "211 0 0 0" ∷ [];
+    } ∷
+    record { computed = printed-on (with-ready true (set-session 0 0 true)) house-table (sent "PE" blank 1 0 0 [] [] ∷ []); expected = text "211 0 0 0" ∷ [] } ∷
+    record { computed = printed-on (with-ready false (with-overdue false)) house-table (sent "ET" blank 1 0 0 [] [] ∷ []); expected = text "12 0 0 0" ∷ [] } ∷
     -- "Judging uniqueness before P is put in stored form"
     record {
       computed = printed packed-table packed-calls;
@@ -387,13 +503,13 @@ rows =
     record { computed = printed-on (with-held 0 true) house-table (sent "RI" blank 1 1 0 [] [] ∷ []); expected = text "12 0 0 0" ∷ [] } ∷ []
 
 -- ---- which of the 256 option bytes are named for each command
-named-options : map (λ c. sift (has-option c) (numbers 256 0)) commands
+named-options : map (λ c. sift (has-option c) (numbers 256 0)) direct-commands
     ≡ (blank ∷ []) ∷ (blank ∷ []) ∷ (blank ∷ option-I ∷ []) ∷ (blank ∷ option-I ∷ []) ∷ (blank ∷ option-H ∷ []) ∷ (blank ∷ option-H ∷ [])
-    ∷ (blank ∷ []) ∷ (blank ∷ []) ∷ (blank ∷ []) ∷ (blank ∷ []) ∷ (blank ∷ []) ∷ (blank ∷ option-A ∷ []) ∷ (blank ∷ []) ∷ []
+    ∷ (blank ∷ []) ∷ (blank ∷ []) ∷ (blank ∷ []) ∷ (blank ∷ []) ∷ (blank ∷ []) ∷ (blank ∷ option-A ∷ []) ∷ (blank ∷ []) ∷ (blank ∷ []) ∷ []
 unfolding has-option
 named-options = refl
 
 -- a `refl` for each row: one for all rows computes several times as long
 computed-as-expected : Each (λ r. r .computed ≡ r .expected) rows
-unfolding assorted-calls doubled-store house-table house-calls one-table two-table packed-table given-up-calls changed-twice-calls emptied-calls going-round-calls hold-only-calls no-fields-calls changed-after-calls nulls-calls no-buffer-calls packed-calls signs-calls beside-lent-calls unstored-store lent-store rows record-length field-offset file-offset store-size image-length place valid file-valid field-valid name-valid format-of option-of file-item field-item item-of read-from read-table stored below-zero allowed null-value field-named format-valid element places named-twice length-needed needed-within fits read-fields write-fields values-allowed null-record slot-fits has-record get shown lowest elsewhere put-record empty fresh file-part with-part pack-of unpack-of entries holder held-by repeated append change closed remove-queue remove-images remove-count image-has keep-image settled first-change-queue first-change-images put-back-in put-back restore command-of has-option too-short well-made removed backed-out clocked target rows-usable rows-understood is-overdue session-in-transaction access-refused file-unknown isn-invalid format-refused field-twice record-length-refused value-refused none-found held-elsewhere presence-refused not-held release-refused file-full limit-reached queue-full new-record value-taken held imaged written erased effect-at admitted-session admitted-user admitted perform step set-up decimal line-of
-computed-as-expected = (refl, (refl, (refl, (refl, (refl, (refl, (refl, (refl, (refl, (refl, (refl, (refl, (refl, (refl, (refl, (refl, (refl, (refl, (refl, (refl, (refl, (refl, (refl, (refl, (refl, tt)))))))))))))))))))))))))
+unfolding assorted-calls doubled-store house-table house-calls one-table two-table packed-table given-up-calls changed-twice-calls emptied-calls going-round-calls hold-only-calls no-fields-calls changed-after-calls nulls-calls no-buffer-calls packed-calls signs-calls beside-lent-calls ready-calls only-ending-calls refused-ready-calls no-transaction-calls ready-once-calls unstored-store lent-store rows record-length field-offset file-offset store-size image-length place valid file-valid field-valid name-valid format-of option-of file-item field-item item-of read-from read-table stored below-zero allowed null-value field-named format-valid element places named-twice length-needed needed-within fits read-fields write-fields values-allowed null-record slot-fits has-record get shown lowest elsewhere put-record empty fresh file-part with-part pack-of unpack-of entries holder held-by repeated append change closed remove-queue remove-images remove-count image-has keep-image settled first-change-queue first-change-images put-back-in put-back restore command-of has-option too-short well-made removed backed-out clocked target rows-usable rows-understood is-overdue session-in-transaction ready-refused access-refused transaction-missing file-unknown isn-invalid format-refused field-twice record-length-refused value-refused none-found held-elsewhere presence-refused not-held release-refused file-full limit-reached queue-full new-record value-taken held imaged written erased effect-at admitted-session admitted-user admitted perform step set-up decimal line-of
+computed-as-expected = (refl, (refl, (refl, (refl, (refl, (refl, (refl, (refl, (refl, (refl, (refl, (refl, (refl, (refl, (refl, (refl, (refl, (refl, (refl, (refl, (refl, (refl, (refl, (refl, (refl, (refl, (refl, (refl, (refl, (refl, (refl, (refl, (refl, (refl, (refl, (refl, (refl, (refl, tt))))))))))))))))))))))))))))))))))))))

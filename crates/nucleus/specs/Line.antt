@@ -7,7 +7,7 @@ use mathlib.Core.Option.{Option, none, some}
 use lib.Dec.{eqb, ltb}
 use lib.ListN.{take}
 use Rattle.lists.specs.Tests.{cond}
-use Rattle.nucleus.specs.Commands.{commands, command-of, one-of}
+use Rattle.nucleus.specs.Commands.{direct-commands, command-of, one-of}
 use Rattle.nucleus.specs.Responses.{number}
 use Rattle.nucleus.specs.Nucleus.{Result}
 use Rattle.nucleus.specs.declared.Call.{Call}
@@ -42,7 +42,7 @@ numbers-part a = decimal (number (a .response)) ++ 32 ∷ decimal (a .isn) ++ 32
 
 -- the bytes that a reading wrote stand behind them
 abbrev pub shows-bytes : Call → Answer → Bool
-shows-bytes call a = shows (command-of commands (call .command)) && not (eqb (a .quantity) 0)
+shows-bytes call a = shows (command-of direct-commands (call .command)) && not (eqb (a .quantity) 0)
 
 -- by what a call answered, and its record buffer
 unfoldable pub line-of : Call → Answer → List ℕ → List ℕ

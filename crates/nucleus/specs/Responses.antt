@@ -1,7 +1,7 @@
--- Document 01's number for each cause, in the order of its table.
+-- The number for each cause, in the order of document 01's table and of the requests that add to it.
 use Prim.Native.Nat.{ℕ}
 use Rattle.nucleus.specs.declared.Response.{Response}
-use Rattle.nucleus.specs.declared.Response.the-variants.{Good, DefinitionInvalid, BufferTooShort, StateInvalid, CommandUnknown, UserUnknown, BackedOut, AccessOnly, FileUnknown, IsnInvalid, FormatInvalid, FieldTwice, RecordLength, ValueInvalid, NotFound, HeldByAnother, Presence, NotHeld, AlreadyChanged, FileFull, HoldLimit, QueueFull, ValueTaken}
+use Rattle.nucleus.specs.declared.Response.the-variants.{Good, DefinitionInvalid, BufferTooShort, StateInvalid, CommandUnknown, UserUnknown, BackedOut, TransactionReady, AccessOnly, NoTransaction, FileUnknown, IsnInvalid, FormatInvalid, FieldTwice, RecordLength, ValueInvalid, NotFound, HeldByAnother, Presence, NotHeld, AlreadyChanged, FileFull, HoldLimit, QueueFull, ValueTaken}
 use Rattle.nucleus.specs.declared.Answer.{Answer}
 
 abbrev pub number : Response → ℕ
@@ -12,7 +12,9 @@ number StateInvalid = 12
 number CommandUnknown = 22
 number UserUnknown = 72
 number BackedOut = 9
+number TransactionReady = 211
 number AccessOnly = 29
+number NoTransaction = 212
 number FileUnknown = 17
 number IsnInvalid = 113
 number FormatInvalid = 41

@@ -1,6 +1,6 @@
--- The response table (document 01, 'Responses, in the order of checking'): each row its cause and when it holds. The response is that of the
--- first row that holds. What a refused call leaves goes by the four lists: nothing is changed by the first; the second comes after the clock
--- and the back-outs, the others after the session that opened.
+-- The response table (document 01, 'Responses, in the order of checking', with the rows of document 02): each row its cause and when it holds. The
+-- response is that of the first row that holds. What a refused call leaves goes by the four lists: nothing is changed by the first; the second comes
+-- after the clock and the back-outs, the others after the session that opened.
 use Prim.Native.Nat.{ℕ}
 use mathlib.Core.Bool.{Bool, false, not, _&&_, _||_}
 use mathlib.Core.List.{List, [], _∷_}
@@ -19,8 +19,8 @@ use Rattle.store.specs.Store.{field-value}
 use Rattle.search.specs.Search.{elsewhere}
 use Rattle.queue.specs.Queue.{held-by}
 use Rattle.images.specs.Images.{image-has}
-use Rattle.nucleus.specs.Commands.{command-of, one-of, on-file, at-given-isn, holding, changing-held, on-record, naming, bringing-values, on-session, serving-access-only, has-option, option-H}
-use Rattle.nucleus.specs.Users.{is-active}
+use Rattle.nucleus.specs.Commands.{command-of, one-of, on-file, at-given-isn, holding, changing-held, on-record, naming, bringing-values, on-session, serving-ready, setting-ready, serving-access-only, has-option, option-H}
+use Rattle.nucleus.specs.Users.{is-active, is-ready}
 use Rattle.nucleus.specs.Nucleus.{Nucleus, Request, max-users, max-et-data, data-at, user-of, entries-of, width-of}
 use Rattle.nucleus.specs.WellMade.{too-short, well-made}
 use Rattle.nucleus.specs.Target.{is-file, is-isn, other-holds, is-changed, command-in, file-place, file, part, record-at, holder-of, seeks, target, target-isn, held-by-caller, new-record}
@@ -29,7 +29,7 @@ use Rattle.nucleus.specs.declared.Command.the-variants.{Ri, A1, N1, N2, 
 use Rattle.nucleus.specs.declared.Call.{Call}
 use Rattle.nucleus.specs.declared.User.{User}
 use Rattle.nucleus.specs.declared.Response.{Response}
-use Rattle.nucleus.specs.declared.Response.the-variants.{BufferTooShort, StateInvalid, CommandUnknown, UserUnknown, BackedOut, AccessOnly, FileUnknown, IsnInvalid, FormatInvalid, FieldTwice, RecordLength, ValueInvalid, NotFound, HeldByAnother, Presence, NotHeld, AlreadyChanged, FileFull, HoldLimit, QueueFull, ValueTaken}
+use Rattle.nucleus.specs.declared.Response.the-variants.{BufferTooShort, StateInvalid, CommandUnknown, UserUnknown, BackedOut, TransactionReady, AccessOnly, NoTransaction, FileUnknown, IsnInvalid, FormatInvalid, FieldTwice, RecordLength, ValueInvalid, NotFound, HeldByAnother, Presence, NotHeld, AlreadyChanged, FileFull, HoldLimit, QueueFull, ValueTaken}
 
 pub record Row : Type 0 where
   pub cause : Response
@@ -83,12 +83,24 @@ module _ (c : Command) (call : Call) (n : Nucleus) where
       ∷ []
 
   -- ---- after the session opened
+  -- document 02, No. 12: "211 for another call while ready, after 9"
+  unfoldable pub ready-refused : Bool
+  ready-refused = is-ready caller && not (one-of serving-ready c)
+
   -- "access-only user, call not OP, CL, L1, RE"
   unfoldable pub access-refused : Bool
   access-refused = caller .«access_only» && not (one-of serving-access-only c)
 
+  -- No. 12: "212 for PE without a transaction, after 29"
+  unfoldable pub transaction-missing : Bool
+  transaction-missing = one-of setting-ready c && not (is-active caller)
+
   abbrev pub rows-after-session : List Row
-  rows-after-session = row AccessOnly access-refused ∷ []
+  rows-after-session =
+      row TransactionReady ready-refused
+      ∷ row AccessOnly access-refused
+      ∷ row NoTransaction transaction-missing
+      ∷ []
 
 -- ---- of a command that is admitted
 module _ (r : Request) (n : Nucleus) where

@@ -13,7 +13,7 @@ use Rattle.store.specs.Store.{fresh, file-part, with-part}
 use Rattle.definition.specs.declared.Definition.{Definition}
 use Rattle.reading.specs.declared.End.{End}
 use Rattle.reading.specs.declared.End.the-variants.{At, Broken}
-use Rattle.nucleus.specs.Commands.{commands, command-of}
+use Rattle.nucleus.specs.Commands.{direct-commands, command-of}
 use Rattle.nucleus.specs.Users.{opened, with-overdue}
 use Rattle.nucleus.specs.Responses.{refused}
 use Rattle.nucleus.specs.Nucleus.{Nucleus, nucleus, Request, request, Result, result, fresh-state, change-user}
@@ -26,7 +26,7 @@ use Rattle.nucleus.specs.declared.Call.{Call}
 use Rattle.nucleus.specs.declared.Response.{Response}
 use Rattle.nucleus.specs.declared.Response.the-variants.{Good, DefinitionInvalid, BufferTooShort, CommandUnknown}
 
--- ---- before a command: the rows up to 29, for any function that serves some of the commands
+-- ---- before a command: the rows up to 212, for any function that serves some of the commands
 -- turned away with a cause, and what is left then; or let in with its command, on what the clock and the session that opened left
 pub data Admission : Type 0 where
   turned-away : Response → Nucleus → Admission
@@ -41,7 +41,7 @@ unless-refused none n next = next
 abbrev pub notified : Command → Call → Nucleus → Nucleus
 notified c call n = cond (is-overdue c call n) (change-user (call .user) (with-overdue false) n) (backed-out (call .user) n)
 
--- the row of 29
+-- the rows of 211, 29 and 212
 unfoldable pub admitted-session : Command → Call → Nucleus → Admission
 admitted-session c call n = unless-refused (first-cause (rows-after-session c call n)) n (let-in c n)
 
@@ -54,7 +54,7 @@ abbrev pub admitted-command : Option Command → Call → Nucleus → Admission
 admitted-command none call n = turned-away CommandUnknown n
 admitted-command (some c) call n = admitted-user c call (clocked (call .clock) n)
 
--- 12, 11, 12; 22, 72; the clock; 9; the session; 29
+-- 12, 11, 12; 22, 72; the clock; 9; the session; 211, 29, 212
 unfoldable pub admitted : List Command → ℕ → Call → Nucleus → Admission
 admitted served capacity call n =
     unless-refused (first-cause (rows-usable capacity n)) n
@@ -78,7 +78,7 @@ serve (turned-away cause n) capacity call format buffer = refusal buffer n cause
 serve (let-in c n) capacity call format buffer = perform (request capacity c call format buffer) n
 
 unfoldable pub step : ℕ → Call → List ℕ → List ℕ → Nucleus → Result
-step capacity call format buffer n = serve (admitted commands capacity call n) capacity call format buffer
+step capacity call format buffer n = serve (admitted direct-commands capacity call n) capacity call format buffer
 
 -- ---- set-up
 pub record SetUp : Type 0 where

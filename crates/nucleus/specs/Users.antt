@@ -1,7 +1,7 @@
 -- A user (document 01: "A user with no session gets one: hold limit 64, time limit 900, sequence 0"), and what becomes of his session and
 -- transaction.
 use Prim.Native.Nat.{ℕ, _-_}
-use mathlib.Core.Bool.{Bool, true, false, _&&_}
+use mathlib.Core.Bool.{Bool, true, false, not, _&&_}
 use lib.Dec.{eqb, ltb}
 use Rattle.lists.specs.Tests.{cond}
 use Rattle.nucleus.specs.declared.Transaction.{Transaction}
@@ -25,7 +25,7 @@ opening = record {
   «time_limit» = default-time-limit;
   sequence = 0;
   «access_only» = false;
-  transaction = record { active = false; begun = 0 };
+  transaction = record { active = false; begun = 0; ready = false };
   overdue = false;
 }
 
@@ -81,12 +81,17 @@ counted next u = record {
 abbrev pub is-active : User → Bool
 is-active u = u .transaction .active
 
+-- document 02, No. 12: PE set it ready
+abbrev pub is-ready : User → Bool
+is-ready u = u .transaction .ready
+
 -- a transaction that began more than the limit ago
 abbrev pub late : ℕ → ℕ → ℕ → Bool
 late clock begun limit = ltb limit (clock - begun)
 
+-- No. 12: while he is ready "time doesn't back him out"
 abbrev pub is-due : ℕ → User → Bool
-is-due clock u = is-active u && late clock (u .transaction .begun) (u .«time_limit»)
+is-due clock u = is-active u && not (is-ready u) && late clock (u .transaction .begun) (u .«time_limit»)
 
 abbrev pub with-transaction : Transaction → User → User
 with-transaction t u = record {
@@ -101,10 +106,14 @@ with-transaction t u = record {
 
 -- "A transaction opens at the user's first new hold"
 abbrev pub started : ℕ → User → User
-started clock u = cond (is-active u) u (with-transaction (record { active = true; begun = clock }) u)
+started clock u = cond (is-active u) u (with-transaction (record { active = true; begun = clock; ready = false }) u)
+
+-- No. 12: "PE sets his open transaction ready"
+abbrev pub made-ready : User → User
+made-ready u = with-transaction (record { active = is-active u; begun = u .transaction .begun; ready = true }) u
 
 abbrev pub ended : User → User
-ended u = with-transaction (record { active = false; begun = u .transaction .begun }) u
+ended u = with-transaction (record { active = false; begun = u .transaction .begun; ready = false }) u
 
 -- document 01's overdue mark, set or cleared
 abbrev pub with-overdue : Bool → User → User

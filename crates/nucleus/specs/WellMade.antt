@@ -4,7 +4,7 @@ use mathlib.Core.Bool.{Bool, true, not, _&&_, _||_}
 use mathlib.Core.List.{List, [], _∷_}
 use lib.Dec.{leb, ltb}
 use lib.ListN.{length}
-use Rattle.lists.specs.Tests.{within}
+use Rattle.lists.specs.Tests.{cond, within}
 use Rattle.lists.specs.Folds.{all}
 use Rattle.definition.specs.Table.{files-of}
 use Rattle.layout.specs.Layout.{store-size, image-length, place, isn-found}
@@ -13,7 +13,7 @@ use Rattle.repeats.specs.Repeats.{repeated}
 use Rattle.definition.specs.declared.Definition.{Definition}
 use Rattle.definition.specs.declared.File.{File}
 use Rattle.entries.specs.declared.Entry.{Entry}
-use Rattle.nucleus.specs.Users.{is-active}
+use Rattle.nucleus.specs.Users.{is-active, is-ready}
 use Rattle.nucleus.specs.Nucleus.{Nucleus, max-users, max-capacity, max-et-data, user-at, entries-of}
 use Rattle.nucleus.specs.declared.User.{User}
 use Rattle.nucleus.specs.declared.EtData.{EtData}
@@ -33,9 +33,10 @@ entry-made s e =
     isn-found (s .definition) (place (s .definition) (e .file)) (e .isn)
     && (within 1 max-users (e .user) && is-active (user-at s (e .user)))
 
--- ---- users: "whoever is in one has a session; no transaction begun after the kept clock"
+-- ---- users: "whoever is in one has a session; no transaction begun after the kept clock". Document 02, No. 12: ready is kept for a transaction, and
+-- nobody without one has it
 abbrev pub user-made : ℕ → User → Bool
-user-made clock u = not (is-active u) || (u .session && leb (u .transaction .begun) clock)
+user-made clock u = cond (is-active u) (u .session && leb (u .transaction .begun) clock) (not (is-ready u))
 
 -- "ET data at most 64 bytes"
 abbrev pub data-made : EtData → Bool

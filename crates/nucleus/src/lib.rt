@@ -15,7 +15,7 @@ pub const MAX_ET_DATA: usize = 64;
 // The greatest sequence number; it is not passed.
 pub const MAX_SEQUENCE: u32 = 4294967295;
 
-// The thirteen commands, in the order of the table of commands.
+// The thirteen commands in the order of the table of commands, and behind them the later ones.
 pub enum Command {
     Hi,
     Ri,
@@ -30,9 +30,14 @@ pub enum Command {
     Re,
     Op,
     Cl,
+    Pe,
 }
 
 pub const COMMANDS: usize = 13;
+
+pub const LATER_COMMANDS: usize = 1;
+
+pub const DIRECT_COMMANDS: usize = COMMANDS + LATER_COMMANDS;
 
 // The options of a call.
 pub const BLANK: u8 = b' ';
@@ -67,7 +72,9 @@ pub enum Response {
     CommandUnknown,
     UserUnknown,
     BackedOut,
+    TransactionReady,
     AccessOnly,
+    NoTransaction,
     FileUnknown,
     IsnInvalid,
     FormatInvalid,
@@ -92,11 +99,13 @@ pub struct Answer {
     pub sequence: u32,
 }
 
-// All that is kept for a user's transaction: whether he is in one, and the clock at which it began.
+// All that is kept for a user's transaction: whether he is in one, the clock at which it began, and whether PE set it ready, so that it waits for
+// ET or BT alone.
 #[repr(C)]
 pub struct Transaction {
     pub begun: u32,
     pub active: bool,
+    pub ready: bool,
 }
 
 // A user's session and transaction. What belongs to an ended session or transaction keeps its last values and decides nothing.
@@ -132,6 +141,7 @@ impl User {
             transaction: Transaction {
                 active: false,
                 begun: 0,
+                ready: false,
             },
             overdue: false,
         }

@@ -32,7 +32,7 @@ use Rattle.nucleus.specs.Commands.{code-at, command-of, has-option, blank, opti
 use Rattle.nucleus.specs.WellMade.{too-short, well-made}
 use Rattle.nucleus.specs.Clock.{removed, backed-out, clocked}
 use Rattle.nucleus.specs.Target.{target, new-record}
-use Rattle.nucleus.specs.Rows.{rows-usable, rows-understood, is-overdue, session-in-transaction, access-refused, file-unknown, isn-invalid, format-refused, field-twice, record-length-refused, value-refused, none-found, held-elsewhere, presence-refused, not-held, release-refused, file-full, limit-reached, queue-full, value-taken}
+use Rattle.nucleus.specs.Rows.{rows-usable, rows-understood, is-overdue, session-in-transaction, ready-refused, access-refused, transaction-missing, file-unknown, isn-invalid, format-refused, field-twice, record-length-refused, value-refused, none-found, held-elsewhere, presence-refused, not-held, release-refused, file-full, limit-reached, queue-full, value-taken}
 use Rattle.nucleus.specs.Effects.{held, imaged, written, erased, effect-at}
 use Rattle.nucleus.specs.Step.{admitted-session, admitted-user, admitted, perform, step, set-up}
 use Rattle.nucleus.specs.Line.{decimal, line-of}
@@ -89,5 +89,5 @@ rows =
     record { computed = output []; expected = "bad" ∷ [] } ∷ []
 
 as-expected : Each (λ r. r .computed ≡ written-lines (r .expected)) rows
-unfolding house-table large-table first-call house-calls rows well-formed given-by call-of lines output code-at record-length field-offset file-offset store-size image-length place valid file-valid field-valid name-valid format-of option-of file-item field-item item-of read-from read-table stored below-zero allowed null-value field-named format-valid element places named-twice length-needed needed-within fits read-fields write-fields values-allowed null-record slot-fits has-record get shown lowest elsewhere put-record empty fresh file-part with-part pack-of unpack-of entries holder held-by repeated append change closed remove-queue remove-images remove-count image-has keep-image settled first-change-queue first-change-images put-back-in put-back restore command-of has-option too-short well-made removed backed-out clocked target rows-usable rows-understood is-overdue session-in-transaction access-refused file-unknown isn-invalid format-refused field-twice record-length-refused value-refused none-found held-elsewhere presence-refused not-held release-refused file-full limit-reached queue-full new-record value-taken held imaged written erased effect-at admitted-session admitted-user admitted perform step set-up decimal line-of
+unfolding house-table large-table first-call house-calls rows well-formed given-by call-of lines output code-at record-length field-offset file-offset store-size image-length place valid file-valid field-valid name-valid format-of option-of file-item field-item item-of read-from read-table stored below-zero allowed null-value field-named format-valid element places named-twice length-needed needed-within fits read-fields write-fields values-allowed null-record slot-fits has-record get shown lowest elsewhere put-record empty fresh file-part with-part pack-of unpack-of entries holder held-by repeated append change closed remove-queue remove-images remove-count image-has keep-image settled first-change-queue first-change-images put-back-in put-back restore command-of has-option too-short well-made removed backed-out clocked target rows-usable rows-understood is-overdue session-in-transaction ready-refused access-refused transaction-missing file-unknown isn-invalid format-refused field-twice record-length-refused value-refused none-found held-elsewhere presence-refused not-held release-refused file-full limit-reached queue-full new-record value-taken held imaged written erased effect-at admitted-session admitted-user admitted perform step set-up decimal line-of
 as-expected = (refl, (refl, (refl, (refl, (refl, (refl, (refl, (refl, (refl, (refl, (refl, tt)))))))))))

@@ -43,13 +43,14 @@ pub fn back_out(
     let_go(count, queue, images, width, Removal::All { user })
 }
 
-// A transaction that ends keeps its start, which decides nothing.
+// A transaction that ends is not ready any more; it keeps its start, which decides nothing.
 pub fn ended(mut user: User) -> User
     ensures { λ r. ⌜ r ≡ ended user ⌝ }
 {
     let transaction = Transaction {
         active: false,
         begun: user.transaction.begun,
+        ready: false,
     };
     user.transaction = transaction;
     user

@@ -1,9 +1,9 @@
-// The number of a response (document 01, the response table).
+// The number of a response (document 01, the response table, and the requests of document 02).
 ghost use mathlib.Core.Path.{_≡_};
 ghost use Rattle.nucleus.specs.Responses.{number};
 use nucleus::Response;
 
-// Document 01's number for a cause.
+// The number for a cause.
 pub fn number(response: Response) -> u16
     ensures { λ r. ⌜ r ≡ number response ⌝ }
 {
@@ -15,7 +15,9 @@ pub fn number(response: Response) -> u16
         Response::CommandUnknown => 22,
         Response::UserUnknown => 72,
         Response::BackedOut => 9,
+        Response::TransactionReady => 211,
         Response::AccessOnly => 29,
+        Response::NoTransaction => 212,
         Response::FileUnknown => 17,
         Response::IsnInvalid => 113,
         Response::FormatInvalid => 41,

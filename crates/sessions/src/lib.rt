@@ -22,11 +22,14 @@ pub fn fresh_user() -> User
     user
 }
 
-// Whether the user's transaction began more than his time limit ago.
+// Whether the user's transaction began more than his time limit ago. One that is ready waits for him.
 pub fn is_due(user: User, clock: u32) -> bool
     ensures { λ r. ⌜ r ≡ is-due clock user ⌝ }
 {
     if !user.transaction.active {
+        return false;
+    }
+    if user.transaction.ready {
         return false;
     }
     if clock < user.transaction.begun {

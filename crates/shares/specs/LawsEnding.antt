@@ -1,4 +1,4 @@
--- ET, BT, RE, OP and CL: what `perform` does, over the caller's share. They are about no file.
+-- ET, BT, RE, OP, CL and PE: what `perform` does, over the caller's share. They are about no file.
 -- Assumes nothing.
 use Prim.Native.Nat.{ℕ}
 use mathlib.Core.Path.{_≡_, refl, ap}
@@ -7,7 +7,7 @@ use mathlib.Core.List.{List}
 use mathlib.Core.Option.{none}
 use Rattle.hold.specs.Hold.{restore}
 use Rattle.removal.specs.declared.Removal.the-variants.{All}
-use Rattle.nucleus.specs.Users.{closed, counted, ended}
+use Rattle.nucleus.specs.Users.{closed, counted, made-ready, ended}
 use Rattle.nucleus.specs.Responses.{good}
 use Rattle.nucleus.specs.Nucleus.{Nucleus, request, result, width-of}
 use Rattle.nucleus.specs.Clock.{removed, backed-out}
@@ -16,10 +16,10 @@ use Rattle.nucleus.specs.Rows.{first-cause, rows-last, file-unknown, isn-invali
 use Rattle.nucleus.specs.Effects.{effect-at}
 use Rattle.nucleus.specs.Step.{perform}
 use Rattle.nucleus.specs.declared.Call.{Call}
-use Rattle.nucleus.specs.declared.Command.the-variants.{Et, Bt, Re, Op, Cl}
+use Rattle.nucleus.specs.declared.Command.the-variants.{Et, Bt, Re, Op, Cl, Pe}
 use Rattle.shares.specs.Shares.{share-of}
 use Rattle.shares.specs.Chains.{gone, left-count, left-queue, left-images, next-sequence, data-brought, et-cause, re-cause, re-buffer}
-use Rattle.shares.specs.Outcomes.{et-done, et-queue, et-images, bt-done, re-done, re-after, op-done, cl-done}
+use Rattle.shares.specs.Outcomes.{et-done, et-queue, et-images, bt-done, re-done, re-after, op-done, cl-done, pe-done}
 use Rattle.shares.specs.Laws.{result-on, on-state, share-back, user-back, kept-same, nothing-done, performed-as}
 use Rattle.shares.specs.declared.Share.{Share}
 
@@ -57,7 +57,7 @@ module _ (capacity : ℕ) (call : Call) (format buffer : List ℕ) (n : Nucleus)
       (performed-as call n (request capacity Re call format buffer) c _ (n .store) (n .queue) (n .images) _ re-cause-is
       (λ passed. ap (λ k. result (good 0 (x .«et_data» .length) 0) k (re-buffer (x .«et_data») buffer)) (nothing-done call n)))
 
-  -- ---- BT, OP, CL: no row refuses them
+  -- ---- BT, OP, CL, PE: no row refuses them
   pub perform-bt : perform (request capacity Bt call format buffer) n
       ≡ result-on call n (bt-done call x (n .queue) (n .images) (width-of n))
       (restore (n .state .definition) (width-of n) (call .user) (n .queue) (n .images) (n .state .count) (n .store))
@@ -79,3 +79,9 @@ module _ (capacity : ℕ) (call : Call) (format buffer : List ℕ) (n : Nucleus)
   perform-cl =
       performed-as call n (request capacity Cl call format buffer) none _ (n .store) (n .queue) (n .images) buffer refl
       (λ passed. ap (λ k. result (good 0 0 (x .user .sequence)) k buffer) (on-state (user-back call (n .state) (closed (x .user)) (n .state .count))))
+
+  pub perform-pe : perform (request capacity Pe call format buffer) n ≡ result-on call n (pe-done x) (n .store) (n .queue) (n .images) buffer
+  unfolding file-unknown isn-invalid format-refused field-twice record-length-refused value-refused none-found held-elsewhere presence-refused not-held release-refused file-full limit-reached queue-full value-taken target effect-at
+  perform-pe =
+      performed-as call n (request capacity Pe call format buffer) none _ (n .store) (n .queue) (n .images) buffer refl
+      (λ passed. ap (λ k. result (good 0 0 0) k buffer) (on-state (user-back call (n .state) (made-ready (x .user)) (n .state .count))))

@@ -10,7 +10,7 @@ use Rattle.fields.specs.Fields.{read-fields}
 use Rattle.store.specs.Store.{has-record, record-of, shown, put-record, empty}
 use Rattle.removal.specs.declared.Removal.the-variants.{All}
 use Rattle.nucleus.specs.Commands.{option-A}
-use Rattle.nucleus.specs.Users.{set-session, closed, counted, ended}
+use Rattle.nucleus.specs.Users.{set-session, closed, counted, made-ready, ended}
 use Rattle.nucleus.specs.Responses.{good}
 use Rattle.nucleus.specs.declared.Call.{Call}
 use Rattle.nucleus.specs.declared.Response.{Response}
@@ -108,7 +108,7 @@ module _ (call : Call) (x : Share) (queue images : List ℕ) (width : ℕ) where
       done (good 0 (gone x queue images width (All (call .user))) 0)
       (share (ended (x .user)) (x .«et_data») (x .«last_assigned») (left-count x queue images width (All (call .user))))
 
--- ---- RE, OP, CL
+-- ---- RE, OP, CL, PE
 abbrev pub re-done : Share → List ℕ → Done
 re-done x buffer = done-unless (re-cause (x .«et_data») buffer) x (done (good 0 (x .«et_data» .length) 0) x)
 
@@ -120,3 +120,6 @@ op-done call x = done (good 0 0 0) (share-with-user (set-session (call .isn) (ca
 
 abbrev pub cl-done : Share → Done
 cl-done x = done (good 0 0 (x .user .sequence)) (share-with-user (closed (x .user)) x)
+
+abbrev pub pe-done : Share → Done
+pe-done x = done (good 0 0 0) (share-with-user (made-ready (x .user)) x)

@@ -1,7 +1,7 @@
 // What a call's own arguments say (document 01, 'Responses'): the command and the user, 22 and 72; and 113 of the ISN that a call about a file
 // gives.
 ghost use mathlib.Core.Path.{_≡_};
-ghost use Rattle.nucleus.specs.Commands.{commands, one-of, at-given-isn};
+ghost use Rattle.nucleus.specs.Commands.{direct-commands, one-of, at-given-isn};
 ghost use Rattle.understanding.specs.Understanding.{understood-as, isn-refused};
 use codes::Decoded;
 use nucleus::Call;
@@ -17,7 +17,7 @@ pub enum Understood {
 
 // The command of a call, or the cause that refuses it.
 pub fn understand(call: Call) -> Understood
-    ensures { λ r. ⌜ r ≡ understood-as commands call ⌝ }
+    ensures { λ r. ⌜ r ≡ understood-as direct-commands call ⌝ }
 {
     let letters = call.command;
     let decoded = codes::command_of(letters);

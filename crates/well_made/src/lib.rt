@@ -18,7 +18,7 @@ fn user_made(u: User, clock: u32) -> bool
 {
     let t = u.transaction;
     if !t.active {
-        return true;
+        return !t.ready;
     }
     if !u.session {
         return false;
@@ -26,7 +26,7 @@ fn user_made(u: User, clock: u32) -> bool
     t.begun <= clock
 }
 
-// Whoever is in a transaction has a session, and it did not begin after the clock.
+// Whoever is in a transaction has a session, and it did not begin after the clock; whoever is in none is not ready.
 pub fn users_made(users: [User; MAX_USERS], clock: u32) -> bool
     ensures { λ r. ⌜ r ≡ all (user-made clock) users ⌝ }
 {

@@ -1,31 +1,22 @@
 -- `admit_user` meets its contract: each way out is a law of the caller, whoever else is among the users.
 -- Assumes nothing.
-use mathlib.Core.Path.{_≡_, sym, ap, _∙_}
-use mathlib.Core.Bool.{Bool, not, _&&_}
-use Rattle.nucleus.specs.Commands.{one-of, on-session, serving-access-only}
-use Rattle.nucleus.specs.Users.{opened, is-active}
+use mathlib.Core.Path.{sym, ap, _∙_}
+use mathlib.Core.Bool.{Bool, _&&_}
+use Rattle.nucleus.specs.Commands.{one-of, on-session}
+use Rattle.nucleus.specs.Users.{is-active}
 use Rattle.nucleus.specs.declared.Command.{Command}
 use Rattle.nucleus.specs.declared.User.{User}
-use Rattle.access.specs.Laws.{marked, session-refused, access-turned, access-given}
+use Rattle.access.specs.Laws.{marked, session-refused, judged}
 use borrow.Author.Needs.{needs}
 use Rattle.access.proofs.admit_user.Statement.{statement}
 use Rattle.access.proofs.admit_user.Tie as tie
 
--- the tests, of a user
+-- the test of the session, of a user
 abbrev in-session : Command → User → Bool
 in-session c u = one-of on-session c && is-active u
 
-abbrev shut-out : Command → User → Bool
-shut-out c u = u .«access_only» && not (one-of serving-access-only c)
-
 abbrev start : tie.Else1 → tie.Start
 start c = c .before .before .before .before
-
--- what the session that opened was judged by
-judged : (r : tie.After-access-refused) → let a = start (r .before .before .before .before) .args in r .access-refused .result ≡ shut-out (a .command) (opened (a .user))
-judged r =
-    let a = start (r .before .before .before .before) .args in
-    r .access-refused .ensures ∙ ap (shut-out (a .command)) (r .before .opened .ensures)
 
 with-overdue-requires : tie.Need-with-overdue-requires
 with-overdue-requires c κs = search needs
@@ -73,30 +64,18 @@ returns-2 c clock users kept assigned same =
 opened-requires : tie.Need-opened-requires
 opened-requires c κs = search needs
 
-access-refused-requires : tie.Need-access-refused-requires
-access-refused-requires c κs = search needs
+judge-requires : tie.Need-judge-requires
+judge-requires c κs = search needs
 
 returns-3 : tie.Need-returns-3
 returns-3 c clock users kept assigned same =
-    let r = c .before in
-    let g = r .before .before in
+    let g = c .before .before in
     let f = g .before .before in
     let a = start f .args in
-    rw (r .before .opened .ensures)
+    rw (c .judge .ensures, c .before .opened .ensures)
     (rw same at
-    (access-turned (a .command) (a .call) (a .d) clock users kept assigned (a .count) (a .store .now) (a .queue .now) (a .images .now) (ap (λ u. u .overdue) same ∙ f .if1 .left)
-    (ap (in-session (a .command)) same ∙ sym (g .before .session-in-transaction .ensures) ∙ g .if2 .left) (ap (λ u. shut-out (a .command) (opened u)) same ∙ sym (judged r) ∙ c .if3 .taken)))
-
-returns-4 : tie.Need-returns-4
-returns-4 c clock users kept assigned same =
-    let r = c .before in
-    let g = r .before .before in
-    let f = g .before .before in
-    let a = start f .args in
-    rw (r .before .opened .ensures)
-    (rw same at
-    (access-given (a .command) (a .call) (a .d) clock users kept assigned (a .count) (a .store .now) (a .queue .now) (a .images .now) (ap (λ u. u .overdue) same ∙ f .if1 .left)
-    (ap (in-session (a .command)) same ∙ sym (g .before .session-in-transaction .ensures) ∙ g .if2 .left) (ap (λ u. shut-out (a .command) (opened u)) same ∙ sym (judged r) ∙ c .if3 .left)))
+    (judged (a .command) (a .call) (a .d) clock users kept assigned (a .count) (a .store .now) (a .queue .now) (a .images .now) (ap (λ u. u .overdue) same ∙ f .if1 .left)
+    (ap (in-session (a .command)) same ∙ sym (g .before .session-in-transaction .ensures) ∙ g .if2 .left)))
 
 pub admit-user-spec : {M : Type 1} → statement M
 admit-user-spec =
@@ -113,6 +92,5 @@ admit-user-spec =
     same-length-3
     returns-2
     opened-requires
-    access-refused-requires
-    returns-3
-    returns-4)
+    judge-requires
+    returns-3)

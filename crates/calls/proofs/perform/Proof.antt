@@ -8,7 +8,7 @@ use Rattle.definition.specs.declared.Definition.{Definition}
 use Rattle.nucleus.specs.Commands.{one-of}
 use Rattle.nucleus.specs.declared.Call.{Call}
 use Rattle.nucleus.specs.declared.Command.{Command}
-use Rattle.nucleus.specs.declared.Command.the-variants.{Hi, Ri, L1, L4, A1, E1, N1, N2, Et, Bt, Re, Op, Cl}
+use Rattle.nucleus.specs.declared.Command.the-variants.{Hi, Ri, L1, L4, A1, E1, N1, N2, Et, Bt, Re, Op, Cl, Pe}
 use Rattle.shares.specs.declared.Share.{Share}
 use Rattle.options.proofs.Groups.{in-group}
 use Rattle.layout.specs.Layout.{image-length}
@@ -42,6 +42,7 @@ module _ (call : Call) (most clock : ℕ) (x : Share) (d : Definition) (store qu
   of-file Re h = not-both false h refl
   of-file Op h = not-both false h refl
   of-file Cl h = not-both false h refl
+  of-file Pe h = not-both false h refl
 
   -- what ET and BT left, by the length of an image that the code has
   module _ (width : ℕ) (same-width : width ≡ image-length d) (made : Done) (store′ queue′ images′ : List ℕ) where
@@ -106,6 +107,12 @@ cl-requires c κs = search needs
 enum-told-6 : tie.Need-enum-told-6
 enum-told-6 c = search needs
 
+pe-requires : tie.Need-pe-requires
+pe-requires c κs = search needs
+
+enum-told-7 : tie.Need-enum-told-7
+enum-told-7 c = search needs
+
 ri-requires : tie.Need-ri-requires
 ri-requires c κs = search needs
 
@@ -169,6 +176,12 @@ returns-5 c =
     let s = c .before .before .before .before .before .before .before .before in
     as-told s Cl _ (λ i. left (c .cl .ensures i) (s .args .store .now) (s .args .queue .now) (s .args .images .now) (s .args .buffer .now)) (c .before .enum-told5 .given .1)
 
+returns-6 : tie.Need-returns-6
+unfolding performed
+returns-6 c =
+    let s = c .before .before .before .before .before .before .before .before in
+    as-told s Pe _ (λ i. left (c .pe .ensures i) (s .args .store .now) (s .args .queue .now) (s .args .images .now) (s .args .buffer .now)) (c .before .enum-told6 .given .1)
+
 same-length-8 : tie.Need-same-length-8
 same-length-8 c = search needs
 
@@ -181,9 +194,9 @@ same-length-10 c = search needs
 same-length-11 : tie.Need-same-length-11
 same-length-11 c = search needs
 
-returns-6 : tie.Need-returns-6
+returns-7 : tie.Need-returns-7
 unfolding performed
-returns-6 c = as-told (c .before .before .before .before .before .before .before .before .before .before .before .before .before .before .before .before .before .before .before .before) Ri _ (c .before .before .before .before .before .before .before .before .ri .ensures) (c .before .before .before .before .before .before .before .before .before .before .before .before .before .enum-told6 .given .1)
+returns-7 c = as-told (c .before .before .before .before .before .before .before .before .before .before .before .before .before .before .before .before .before .before .before .before) Ri _ (c .before .before .before .before .before .before .before .before .ri .ensures) (c .before .before .before .before .before .before .before .before .before .before .before .before .before .enum-told7 .given .1)
 
 same-length-12 : tie.Need-same-length-12
 same-length-12 c = search needs
@@ -197,11 +210,11 @@ same-length-14 c = search needs
 same-length-15 : tie.Need-same-length-15
 same-length-15 c = search needs
 
-returns-7 : tie.Need-returns-7
+returns-8 : tie.Need-returns-8
 unfolding performed
-returns-7 c =
+returns-8 c =
     let a = c .before .before .before .before .before .before .before .before .before .before .before .before .before .before .before .before .before .before .before .args in
-    let there = in-group files (a .command) (c .before .before .before .before .before .before .before .before .before .before .before .before .before .match .keys7) in
+    let there = in-group files (a .command) (c .before .before .before .before .before .before .before .before .before .before .before .before .before .match .keys8) in
     c .before .before .before .before .before .before .before .before .in-file .ensures ∙ ap (λ at. in-file (a .call) (a .most) (a .clock) (a .share) (a .d) (a .store .now) (a .queue .now) (a .images .now) (a .format .now) (a .buffer .now) at (a .command)) (c .before .before .before .before .before .before .before .before .before .before .before .before .before .before .before .before .before .before .before .pre .0)
     ∙ sym (of-file (a .call) (a .most) (a .clock) (a .share) (a .d) (a .store .now) (a .queue .now) (a .images .now) (a .format .now) (a .buffer .now) (a .command) (sym there))
 
@@ -222,6 +235,8 @@ perform-spec =
     enum-told-5
     cl-requires
     enum-told-6
+    pe-requires
+    enum-told-7
     ri-requires
     in-file-requires
     same-length
@@ -236,13 +251,14 @@ perform-spec =
     returns-3
     returns-4
     returns-5
+    returns-6
     same-length-8
     same-length-9
     same-length-10
     same-length-11
-    returns-6
+    returns-7
     same-length-12
     same-length-13
     same-length-14
     same-length-15
-    returns-7)
+    returns-8)

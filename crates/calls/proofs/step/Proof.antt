@@ -8,7 +8,7 @@ use mathlib.Core.List.{List}
 use mathlib.Core.Option.{none}
 use Rattle.lists.specs.Tests.{within-least, within-most}
 use Rattle.layout.specs.Layout.{store-size}
-use Rattle.nucleus.specs.Commands.{commands}
+use Rattle.nucleus.specs.Commands.{direct-commands}
 use Rattle.nucleus.specs.Nucleus.{Nucleus, nucleus, Result, result}
 use Rattle.nucleus.specs.WellMade.{too-short}
 use Rattle.nucleus.specs.Rows.{first-cause, rows-usable}
@@ -43,7 +43,7 @@ begun k = nucleus (entry k .args .state) (entry k .args .store .now) (entry k .a
 abbrev asked : (k : tie.After-admit) → Command
 asked k = k .before .before .before .before .before .before .before .understood .given .0 .0
 
-understood : (k : tie.After-admit) → understood-as commands (entry k .args .call) ≡ As (asked k)
+understood : (k : tie.After-admit) → understood-as direct-commands (entry k .args .call) ≡ As (asked k)
 understood k = sym (k .before .before .before .before .before .before .before .before .before .understand .ensures) ∙ k .before .before .before .before .before .before .before .understood .given .1
 
 usable : (k : tie.After-admit) → first-cause (rows-usable (entry k .args .capacity) (begun k)) ≡ none
@@ -51,7 +51,7 @@ usable k = verdict-passed (first-cause (rows-usable (entry k .args .capacity) (b
 
 user-in : (k : tie.After-admit) → (1 ≤ entry k .args .call .user) × (entry k .args .call .user ≤ 32)
 user-in k =
-    let inside = understood-plain commands (entry k .args .call) (asked k) (understood k) .user in
+    let inside = understood-plain direct-commands (entry k .args .call) (asked k) (understood k) .user in
     (within-least 1 32 (entry k .args .call .user) inside, within-most 1 32 (entry k .args .call .user) inside)
 
 -- what was lent is as long as it was, and so long enough
@@ -120,7 +120,7 @@ returns-2 c =
     let n = nucleus (a .state) (a .store .now) (a .queue .now) (a .images .now) in
     let told = c .before .before .understood2 .given in
     let usable = verdict-passed (first-cause (rows-usable (a .capacity) n)) (sym (c .before .before .before .before .before .before .before .usable .ensures) ∙ c .before .before .before .before .before .enum-told .given .1) in
-    let e = refused-cause commands (a .call) (told .0 .0) (sym (c .before .before .before .before .understand .ensures) ∙ told .1) in
+    let e = refused-cause direct-commands (a .call) (told .0 .0) (sym (c .before .before .before .before .understand .ensures) ∙ told .1) in
     given-back _ _ _ _ _ (told .0 .0) _ _ (c .refused2 .ensures) (sym (step-misunderstood (a .capacity) (a .call) (a .format .now) (a .buffer .now) n usable (told .0 .0) e))
 
 admit-requires : tie.Need-admit-requires

@@ -5,7 +5,7 @@ use native.Mathlib.Omega.{arith}
 use mathlib.Core.Path.{_≡_, sym, ap}
 use mathlib.Core.List.{map}
 use lib.ListN.{List·getD-eq-default}
-use Rattle.nucleus.specs.Commands.{commands}
+use Rattle.nucleus.specs.Commands.{direct-commands}
 use Rattle.codes.specs.Codes.{command-at}
 use Rattle.codes.specs.declared.Decoded.the-variants.{Known, Unknown}
 use Rattle.codes.proofs.command_at.Statement.{statement}
@@ -69,10 +69,14 @@ returns-13 c = sym (ap command-at (c .match .keys13))
 
 returns-14 : tie.Need-returns-14
 unfolding command-at
-returns-14 c =
+returns-14 c = sym (ap command-at (c .match .keys14))
+
+returns-15 : tie.Need-returns-15
+unfolding command-at
+returns-15 c =
     let r = c .match .rest in
-    let end : 13 ≤ c .before .args .place = past 12 (past 11 (past 10 (past 9 (past 8 (past 7 (past 6 (past 5 (past 4 (past 3 (past 2 (past 1 (past 0 (omega arith) (r .0 .0 .0 .0 .0 .0 .0 .0 .0 .0 .0 .0 .1)) (r .0 .0 .0 .0 .0 .0 .0 .0 .0 .0 .0 .1)) (r .0 .0 .0 .0 .0 .0 .0 .0 .0 .0 .1)) (r .0 .0 .0 .0 .0 .0 .0 .0 .0 .1)) (r .0 .0 .0 .0 .0 .0 .0 .0 .1)) (r .0 .0 .0 .0 .0 .0 .0 .1)) (r .0 .0 .0 .0 .0 .0 .1)) (r .0 .0 .0 .0 .0 .1)) (r .0 .0 .0 .0 .1)) (r .0 .0 .0 .1)) (r .0 .0 .1)) (r .0 .1)) (r .1) in
-    sym (List·getD-eq-default (map Known commands) Unknown end)
+    let end : 14 ≤ c .before .args .place = past 13 (past 12 (past 11 (past 10 (past 9 (past 8 (past 7 (past 6 (past 5 (past 4 (past 3 (past 2 (past 1 (past 0 (omega arith) (r .0 .0 .0 .0 .0 .0 .0 .0 .0 .0 .0 .0 .0 .1)) (r .0 .0 .0 .0 .0 .0 .0 .0 .0 .0 .0 .0 .1)) (r .0 .0 .0 .0 .0 .0 .0 .0 .0 .0 .0 .1)) (r .0 .0 .0 .0 .0 .0 .0 .0 .0 .0 .1)) (r .0 .0 .0 .0 .0 .0 .0 .0 .0 .1)) (r .0 .0 .0 .0 .0 .0 .0 .0 .1)) (r .0 .0 .0 .0 .0 .0 .0 .1)) (r .0 .0 .0 .0 .0 .0 .1)) (r .0 .0 .0 .0 .0 .1)) (r .0 .0 .0 .0 .1)) (r .0 .0 .0 .1)) (r .0 .0 .1)) (r .0 .1)) (r .1) in
+    sym (List·getD-eq-default (map Known direct-commands) Unknown end)
 
 pub command-at-spec : {M : Type 1} → statement M
 command-at-spec =
@@ -91,4 +95,5 @@ command-at-spec =
     returns-11
     returns-12
     returns-13
-    returns-14)
+    returns-14
+    returns-15)

@@ -10,7 +10,7 @@ use Rattle.nucleus.specs.Commands.{one-of}
 use Rattle.nucleus.specs.Responses.{refused}
 use Rattle.nucleus.specs.declared.Call.{Call}
 use Rattle.nucleus.specs.declared.Command.{Command}
-use Rattle.nucleus.specs.declared.Command.the-variants.{Hi, Ri, L1, L4, A1, E1, N1, N2, Et, Bt, Re, Op, Cl}
+use Rattle.nucleus.specs.declared.Command.the-variants.{Hi, Ri, L1, L4, A1, E1, N1, N2, Et, Bt, Re, Op, Cl, Pe}
 use Rattle.nucleus.specs.declared.Response.the-variants.{CommandUnknown}
 use Rattle.shares.specs.Shares.{done}
 use Rattle.shares.specs.declared.Share.{Share}
@@ -21,7 +21,7 @@ use Rattle.file_commands.proofs.on_file.Tie as tie
 
 -- the commands that are about no file
 abbrev others : List Command
-others = Et ∷ Bt ∷ Re ∷ Op ∷ Cl ∷ []
+others = Et ∷ Bt ∷ Re ∷ Op ∷ Cl ∷ Pe ∷ []
 
 module _ (call : Call) (most width clock : ℕ) (x : Share) (f : File) (part queue images format buffer : List ℕ) where
   none-of-file : (c : Command) → one-of others c ≡ true
@@ -40,6 +40,7 @@ module _ (call : Call) (most width clock : ℕ) (x : Share) (f : File) (part que
   none-of-file Re h = refl
   none-of-file Op h = refl
   none-of-file Cl h = refl
+  none-of-file Pe h = refl
 
 -- what a command left, where the command is told
 abbrev on : tie.Start → Command → Left

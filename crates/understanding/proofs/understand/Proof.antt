@@ -6,7 +6,7 @@ use mathlib.Core.Bool.{true}
 use mathlib.Core.Option.{some}
 use borrow.Author.Tests.{not-true, not-false}
 use Rattle.lists.specs.Tests.{within-inside, within-below, within-above}
-use Rattle.nucleus.specs.Commands.{commands, command-of, has-option}
+use Rattle.nucleus.specs.Commands.{direct-commands, command-of, has-option}
 use Rattle.nucleus.specs.Nucleus.{max-users}
 use Rattle.nucleus.specs.declared.Call.{Call}
 use Rattle.nucleus.specs.declared.Command.{Command}
@@ -23,7 +23,7 @@ called c = c .before .before .before .before .before .before .args .call
 abbrev command : tie.After-has-option → Command
 command c = c .before .before .decoded .given .0 .0
 
-known : (c : tie.After-has-option) → command-of commands (called c .command) ≡ some (command c)
+known : (c : tie.After-has-option) → command-of direct-commands (called c .command) ≡ some (command c)
 known c = letters-known _ _ (sym (c .before .before .before .before .command-of .ensures) ∙ c .before .before .decoded .given .1)
 
 named : (c : tie.Else1) → has-option (command (c .before)) (called (c .before) .option) ≡ true
@@ -39,19 +39,19 @@ enum-told : tie.Need-enum-told
 enum-told c = search needs
 
 returns : tie.Need-returns
-returns c = sym (unknown-command commands (c .before .before .before .before .args .call) (letters-unknown _ (sym (c .before .before .command-of .ensures) ∙ c .enum-told .given .1)))
+returns c = sym (unknown-command direct-commands (c .before .before .before .before .args .call) (letters-unknown _ (sym (c .before .before .command-of .ensures) ∙ c .enum-told .given .1)))
 
 has-option-requires : tie.Need-has-option-requires
 has-option-requires c κs = search needs
 
 returns-2 : tie.Need-returns-2
-returns-2 c = sym (unnamed-option commands (called (c .before)) _ (known (c .before)) (sym (c .before .has-option .ensures) ∙ not-true _ (c .if1 .taken)))
+returns-2 c = sym (unnamed-option direct-commands (called (c .before)) _ (known (c .before)) (sym (c .before .has-option .ensures) ∙ not-true _ (c .if1 .taken)))
 
 returns-3 : tie.Need-returns-3
 returns-3 c =
     let o = c .before .before in
     let call = called (o .before) in
-    sym (unknown-user commands call _ (known (o .before)) (named o) (within-below 1 max-users (call .user) (omega arith)))
+    sym (unknown-user direct-commands call _ (known (o .before)) (named o) (within-below 1 max-users (call .user) (omega arith)))
 
 cast-if3 : tie.Need-cast-if3
 cast-if3 c = search needs
@@ -60,13 +60,13 @@ returns-4 : tie.Need-returns-4
 returns-4 c =
     let o = c .before .before .before .before in
     let call = called (o .before) in
-    sym (unknown-user commands call _ (known (o .before)) (named o) (within-above 1 max-users (call .user) (omega arith)))
+    sym (unknown-user direct-commands call _ (known (o .before)) (named o) (within-above 1 max-users (call .user) (omega arith)))
 
 returns-5 : tie.Need-returns-5
 returns-5 c =
     let o = c .before .before .before .before in
     let call = called (o .before) in
-    sym (known-user commands call _ (known (o .before)) (named o) (within-inside 1 max-users (call .user) (omega arith) (omega arith)))
+    sym (known-user direct-commands call _ (known (o .before)) (named o) (within-inside 1 max-users (call .user) (omega arith) (omega arith)))
 
 pub understand-spec : {M : Type 1} → statement M
 understand-spec =

@@ -4,12 +4,13 @@ use mathlib.Core.Path.{_≡_}
 use mathlib.Core.Bool.{true, false}
 use borrow.Author.Tests.{not-true, not-false}
 use Rattle.nucleus.specs.Users.{is-active}
-use borrow.Author.Needs.{needs}
 use Rattle.well_made.proofs.user_made.Statement.{statement}
 use Rattle.well_made.proofs.user_made.Tie as tie
 
 returns : tie.Need-returns
-returns c = search needs
+returns c =
+    let idle : is-active (c .before .before .before .before .args .u) ≡ false = not-true _ (c .before .if1 .taken) in
+    rw idle
 
 returns-2 : tie.Need-returns-2
 returns-2 c =
