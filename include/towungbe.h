@@ -47,7 +47,7 @@ enum {
 };
 
 /*
- * Responses. A call answers the first that applies, in the order of document 01's table, which is not the order of the
+ * Responses. A call answers the first that applies, in the order of the documents' table, which is not the order of the
  * numbers. All but 0 come with ISN, quantity and sequence 0.
  */
 enum {
@@ -72,7 +72,9 @@ enum {
     TOWUNGBE_NOT_HELD = 144,        /* the user does not hold the ISN */
     TOWUNGBE_HELD_BY_ANOTHER = 145, /* another user holds the ISN */
     TOWUNGBE_CHANGED = 146,         /* RI of a record that the user has changed: ET or BT ends the transaction */
-    TOWUNGBE_VALUE_TAKEN = 198      /* a unique value is taken, by a record or by what another user may still turn back to */
+    TOWUNGBE_VALUE_TAKEN = 198,     /* a unique value is taken, by a record or by what another user may still turn back to */
+    TOWUNGBE_TRANSACTION_READY = 211, /* PE has set the user's transaction ready: ET or BT must end it first */
+    TOWUNGBE_NO_TRANSACTION = 212   /* PE without an open transaction */
 };
 
 /*
@@ -108,9 +110,10 @@ typedef struct {
 typedef struct {
     uint32_t begun; /* the clock at which it began */
     bool active;
+    bool ready;     /* PE set it ready: it waits for ET or BT. true where active is false is not well made */
 } towungbe_transaction;
 
-/* A user. What belongs to no session, or to no transaction, means nothing. */
+/* A user. What belongs to no session, or to no transaction, means nothing; but nobody is ready without a transaction. */
 typedef struct {
     uint32_t sequence;                /* how many transactions of this session he has ended by ET */
     towungbe_transaction transaction;
@@ -143,7 +146,7 @@ typedef struct {
 
 /* A call: you fill in the first part; the call fills in the second, whatever its response, and leaves the first. */
 typedef struct {
-    uint8_t command[2]; /* "HI", "RI", "L1", "L4", "A1", "E1", "N1", "N2", "ET", "BT", "RE", "OP" or "CL"; no zero byte after */
+    uint8_t command[2]; /* "HI", "RI", "L1", "L4", "A1", "E1", "N1", "N2", "ET", "BT", "RE", "OP", "CL" or "PE"; no zero byte after */
     uint8_t option;     /* ' ', or 'I' (L1, L4), 'H' (A1, E1), 'A' (OP); 0 is no option */
     uint8_t user;       /* 1 to 32 */
     uint8_t file;       /* the file's number */

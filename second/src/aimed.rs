@@ -15,7 +15,7 @@ const USERS: std::ops::RangeInclusive<u8> = 1..=4;
 type Aim = fn(&mut Random, &Machine) -> Option<ListCall>;
 
 /// Each aim as often as it is tried; some find little to aim at.
-const AIMS: [(usize, Aim); 15] = [
+const AIMS: [(usize, Aim); 17] = [
     (12, hold_more),
     (4, hold_past_limit),
     (16, release_one),
@@ -31,10 +31,16 @@ const AIMS: [(usize, Aim); 15] = [
     (8, leave_unstored),
     (3, read_et_data),
     (10, end_at_last_sequence),
+    (6, set_ready),
+    (8, end_ready),
 ];
 
 /// What there is rarely something for, so that it is looked for first, each once in so many times.
-const RARE: [(u64, Aim); 2] = [(3, take_unstored), (2, take_from_image)];
+const RARE: [(u64, Aim); 3] = [
+    (3, take_unstored),
+    (2, take_from_image),
+    (3, call_ready_and_barred),
+];
 
 /// A call aimed at one of the rules; none where the nucleus had nothing for a few of them.
 pub fn call(random: &mut Random, machine: &Machine) -> Option<ListCall> {
@@ -102,11 +108,11 @@ fn user(machine: &Machine, number: u8) -> &User {
     &machine.state.users[usize::from(number) - 1]
 }
 
-/// Whether neither 9 nor 29 waits for the user.
+/// Whether none of 9, 211 and 29 waits for the user.
 fn is_able(machine: &Machine, number: u8) -> bool {
     let user = user(machine, number);
     let access_only = user.session && user.access_only;
-    !user.overdue && !user.is_late(machine.state.clock) && !access_only
+    !user.overdue && !user.is_late(machine.state.clock) && !user.ready && !access_only
 }
 
 /// Whether neither 47 nor 70 waits for a new entry of the user.
@@ -493,4 +499,40 @@ fn end_at_last_sequence(random: &mut Random, machine: &Machine) -> Option<ListCa
         .collect();
     let user = random.pick_any(&users)?;
     Some(without_buffers(call_at(machine, b"ET", user, (0, 0))))
+}
+
+/// PE of a user in a transaction, or of one who is access-only.
+fn set_ready(random: &mut Random, machine: &Machine) -> Option<ListCall> {
+    let user = somebody(random, |number| {
+        let user = user(machine, number);
+        let in_transaction = user.in_transaction && is_able(machine, number);
+        in_transaction || (user.session && user.access_only)
+    })?;
+    Some(without_buffers(call_at(machine, b"PE", user, (0, 0))))
+}
+
+/// A call of a user who is ready and marked, or ready and access-only: no list has one.
+fn call_ready_and_barred(random: &mut Random, machine: &Machine) -> Option<ListCall> {
+    let user = somebody(random, |number| {
+        let user = user(machine, number);
+        user.ready && (user.overdue || user.access_only)
+    })?;
+    let command = random.pick(&[b"L1", b"PE", b"HI", b"ET"]);
+    Some(without_buffers(call_at(machine, command, user, (0, 1))))
+}
+
+/// A call of a ready user, mostly one that ends his transaction: ET, sometimes with too much data, BT, OP or CL.
+fn end_ready(random: &mut Random, machine: &Machine) -> Option<ListCall> {
+    let user = somebody(random, |number| user(machine, number).ready)?;
+    let command = random.pick(&[
+        b"ET", b"ET", b"ET", b"BT", b"BT", b"OP", b"CL", b"PE", b"PE",
+    ]);
+    let length = match command {
+        b"ET" => random.pick(&[0, 1, 64, 65, 65]),
+        _ => 0,
+    };
+    Some(ListCall {
+        record: random.bytes(length),
+        ..without_buffers(call_at(machine, command, user, (0, 0)))
+    })
 }

@@ -6,7 +6,7 @@ use crate::definition::{self, Definition, Field, File, MAX_FIELDS, MAX_FILES};
 use crate::hold::Entry;
 use crate::machine::Machine;
 use crate::random::{self, ListCall, Random};
-use crate::state::{Call, State, User, COMMANDS};
+use crate::state::{self, Call, State, User};
 use crate::store;
 
 /// A random machine, and whether it was left well made and large enough.
@@ -22,11 +22,11 @@ pub fn machine(random: &mut Random) -> (Machine, bool) {
 }
 
 /// A random machine, whether it was left well made, and a call. The call is aimed at what is there; or the machine is
-/// well made but for the user of one entry.
+/// well made but for the user of one entry, or for one who is ready.
 pub fn aimed(random: &mut Random) -> (Machine, bool, ListCall) {
     let mut machine = well_made_machine(random);
     double_record(random, &mut machine);
-    let spoilt = random.once_in(3) && spoil_holder(random, &mut machine);
+    let spoilt = random.once_in(3) && spoil_user(random, &mut machine);
     let aimed = match spoilt {
         true => None,
         false => aimed::call(random, &machine),
@@ -111,12 +111,17 @@ fn random_user(random: &mut Random, clock: u32) -> User {
         access_only: random.once_in(8),
         in_transaction,
         begun: random.number() as u32,
+        ready: in_transaction && random.once_in(3),
         overdue: random.once_in(12),
         et_length: random.pick(&[0, 1, 64]),
         et_data: [random.number() as u8; 64],
     };
     if in_transaction {
         user.begun = clock - random.below(u64::from(clock) + 1) as u32;
+    }
+    if user.ready && random.once_in(2) {
+        user.access_only = random.once_in(2);
+        user.overdue = !user.access_only;
     }
     user
 }
@@ -177,6 +182,31 @@ fn bring_packed(random: &mut Random, file: &File, content: &mut [u8]) {
     }
 }
 
+/// Lets one thing alone be bad: an entry's user, or a user in no transaction is ready.
+fn spoil_user(random: &mut Random, machine: &mut Machine) -> bool {
+    match random.once_in(4) {
+        true => spoil_ready(random, machine),
+        false => spoil_holder(random, machine),
+    }
+}
+
+/// Sets somebody ready who is in no transaction. Answers whether there was one.
+fn spoil_ready(random: &mut Random, machine: &mut Machine) -> bool {
+    let users = &mut machine.state.users;
+    let mut idle: Vec<&mut User> = users
+        .iter_mut()
+        .filter(|user| !user.in_transaction)
+        .collect();
+    let place = random.below(idle.len().max(1) as u64) as usize;
+    match idle.get_mut(place) {
+        Some(user) => {
+            user.ready = true;
+            true
+        }
+        None => false,
+    }
+}
+
 /// Gives an entry to user 0, while user 1 is in a transaction; to a number above 32; or to a user in no transaction.
 /// Answers whether there was one.
 fn spoil_holder(random: &mut Random, machine: &mut Machine) -> bool {
@@ -209,7 +239,7 @@ fn spoil(random: &mut Random, machine: &mut Machine) {
     let place = random.below(machine.queue.len() as u64 + 1) as usize;
     let user = random.below(32) as usize;
     let definition = &mut machine.state.definition;
-    match random.below(21) {
+    match random.below(22) {
         0 => machine.capacity = random.pick(&[0, 257, u32::MAX]),
         1 => machine.capacity = random.between(1, 8) as u32,
         2 => machine.queue.truncate(place),
@@ -229,6 +259,7 @@ fn spoil(random: &mut Random, machine: &mut Machine) {
         16 => machine.state.last_assigned[place % MAX_FILES] = random.below(7) as u16,
         17 => machine.state.clock = random.below(1000) as u32,
         18 | 19 => repeat_entry(random, machine),
+        20 => machine.state.users[user].ready = random.once_in(2),
         _ => {
             if let Some(entry) = machine.queue.first_mut() {
                 *entry = random_entry(random);
@@ -258,7 +289,7 @@ pub fn call(random: &mut Random, machine: &Machine) -> ListCall {
         _ => random.pick(files).number,
     };
     let call = Call {
-        command: random.pick(&COMMANDS).1,
+        command: random.pick(&state::codes()),
         option: random.pick(b"      IHA"),
         user: random.between(1, 6) as u8,
         file: number,

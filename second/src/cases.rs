@@ -5,11 +5,11 @@ use crate::definition::File;
 use crate::fields;
 use crate::machine::Machine;
 use crate::random::ListCall;
-use crate::state::{self, Answer, Call, COMMANDS};
+use crate::state::{self, Answer, Call, User};
 use crate::store;
 
 /// The cases of single rules.
-const RULES: [&str; 31] = [
+const RULES: [&str; 42] = [
     "RI of one ISN",
     "RI of one ISN beside an unchanged entry",
     "RI of one ISN beside a changed entry",
@@ -41,6 +41,17 @@ const RULES: [&str; 31] = [
     "0 in a packed sign's place",
     "9 in a packed sign's place",
     "packed bytes of another record, stored otherwise",
+    "PE in a transaction",
+    "PE while ready",
+    "PE of an access-only user",
+    "211 for an access-only user",
+    "9 for a ready user's mark",
+    "OP or CL of a ready user",
+    "ET of a ready user",
+    "ET of a ready user, too much data",
+    "BT of a ready user",
+    "ready past the time limit",
+    "ready in no transaction",
 ];
 
 /// The options that are named for some command, and the blank.
@@ -56,7 +67,7 @@ pub fn all() -> Vec<String> {
     for sign in SIGNS {
         all.extend([true, false].map(|is_zero| sign_case(is_zero, sign)));
     }
-    for (_, command) in COMMANDS {
+    for command in state::codes() {
         all.extend(OPTIONS.map(|option| option_case(command, option)));
         all.push(option_case(command, 0));
     }
@@ -85,7 +96,7 @@ pub fn of(before: &Machine, after: &Machine, list_call: &ListCall, answer: &Answ
     let known = state::Command::from_code(call.command).is_some();
     let mut cases = match answer.response {
         11 => return Vec::new(),
-        12 => return strings(&holder_cases(before)),
+        12 => return strings(&[holder_cases(before), unready_case(before)].concat()),
         _ if known => vec![option_case(call.command, call.option)],
         _ => Vec::new(),
     };
@@ -104,6 +115,7 @@ pub fn of(before: &Machine, after: &Machine, list_call: &ListCall, answer: &Answ
         (b"RE", 0) => vec!["RE without bytes"],
         _ => Vec::new(),
     }));
+    cases.extend(strings(&ready_cases(before, after, call, answer)));
     cases.extend(no_fields_case(list_call, answer));
     if let (b"A1" | b"N1" | b"N2", 0 | 55) = (&call.command, answer.response) {
         cases.extend(packed_cases(after, list_call, answer));
@@ -307,5 +319,50 @@ fn holder_cases(before: &Machine) -> Vec<&'static str> {
     match cases[..] {
         [_] if well_made => cases,
         _ => Vec::new(),
+    }
+}
+
+/// What a call has to do with PE: by the caller before it, and by who is ready after it.
+fn ready_cases(
+    before: &Machine,
+    after: &Machine,
+    call: &Call,
+    answer: &Answer,
+) -> Vec<&'static str> {
+    let place = usize::from(call.user).wrapping_sub(1);
+    let (Some(caller), false) = (before.state.users.get(place), answer.response == 22) else {
+        return Vec::new();
+    };
+    let waits = |user: &User| {
+        let passed = after.state.clock.saturating_sub(user.begun);
+        user.ready && passed > u32::from(user.time_limit)
+    };
+    let past_limit = after.state.users.iter().any(waits);
+    let mut cases = match (&call.command, answer.response) {
+        (b"PE", 0) => vec!["PE in a transaction"],
+        (b"PE", 29) => vec!["PE of an access-only user"],
+        (_, 211) if caller.access_only => vec!["211 for an access-only user"],
+        (b"PE", 211) => vec!["PE while ready"],
+        (_, 9) if caller.ready && caller.overdue => vec!["9 for a ready user's mark"],
+        (b"OP" | b"CL", 9) if caller.ready => vec!["OP or CL of a ready user"],
+        (b"ET", 0) if caller.ready => vec!["ET of a ready user"],
+        (b"ET", 53) if caller.ready => vec!["ET of a ready user, too much data"],
+        (b"BT", 0) if caller.ready => vec!["BT of a ready user"],
+        _ => Vec::new(),
+    };
+    cases.extend(past_limit.then_some("ready past the time limit"));
+    cases
+}
+
+/// What alone keeps a state from being well made: a user who is ready in no transaction.
+fn unready_case(before: &Machine) -> Vec<&'static str> {
+    let mut repaired = before.clone();
+    for user in &mut repaired.state.users {
+        user.ready &= user.in_transaction;
+    }
+    let well_made = state::is_well_made(&repaired.state, repaired.capacity, &repaired.queue);
+    match well_made {
+        true => vec!["ready in no transaction"],
+        false => Vec::new(),
     }
 }

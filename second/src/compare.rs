@@ -16,7 +16,7 @@ pub const FILL: u8 = 0xA5;
 pub type Counts = BTreeMap<String, u64>;
 
 /// The labels that random lists reach: every response but 10, 11 and 12, and 113 by each of its rows.
-pub const REACHED: [&str; 20] = [
+pub const REACHED: [&str; 22] = [
     "0",
     "3",
     "9",
@@ -37,6 +37,8 @@ pub const REACHED: [&str; 20] = [
     "145",
     "146",
     "198",
+    "211",
+    "212",
 ];
 
 /// One line a label: how often it came, 0 where it did not.

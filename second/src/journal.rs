@@ -28,6 +28,8 @@ pub struct Journal {
     changes: Vec<Change>,
     time_limits: [u16; MAX_USERS],
     begun: [Option<u32>; MAX_USERS],
+    /// Whose transaction a PE answered 0 set ready.
+    ready: [bool; MAX_USERS],
 }
 
 impl Journal {
@@ -40,6 +42,7 @@ impl Journal {
             changes: Vec::new(),
             time_limits: [User::DEFAULT_TIME_LIMIT; MAX_USERS],
             begun: [None; MAX_USERS],
+            ready: [false; MAX_USERS],
         })
     }
 
@@ -62,19 +65,20 @@ impl Journal {
             (Command::Bt, 0) | (Command::Op | Command::Cl, 9) => self.back_out(call.user),
             (Command::Op, 0) => self.set_time_limit(call.user, call.limit),
             (Command::Cl, 0) => self.set_time_limit(call.user, 0),
+            (Command::Pe, 0) => self.ready[usize::from(call.user) - 1] = true,
             _ => {}
         }
     }
 
     /// "Raises the clock to its own, if greater, and backs out each user whose transaction began more than his limit
-    /// ago."
+    /// ago"; "time doesn't back him out (nor in the book of requirement 3, after a PE answered 0)".
     fn raise_clock(&mut self, clock: u32) {
         self.clock = self.clock.max(clock);
         for user in self.in_transaction() {
             let index = usize::from(user) - 1;
             let late = self.begun[index]
                 .is_some_and(|begun| self.clock - begun > u32::from(self.time_limits[index]));
-            if late {
+            if late && !self.ready[index] {
                 self.back_out(user);
             }
         }
@@ -106,6 +110,7 @@ impl Journal {
 
     fn end(&mut self, user: u8) {
         self.begun[usize::from(user) - 1] = None;
+        self.ready[usize::from(user) - 1] = false;
         for change in self.changes.iter_mut().filter(|change| change.user == user) {
             change.open = false;
         }

@@ -113,6 +113,7 @@ fn perform(context: &mut Context) -> Answer {
         Command::Re => read_et_data(context),
         Command::Op => open(context),
         Command::Cl => close(context),
+        Command::Pe => set_ready(context),
     }
 }
 
@@ -269,7 +270,7 @@ fn end_transaction(context: &mut Context) -> Answer {
     let quantity = remove_entries(context, |entry| entry.user == caller);
     store_et_data(context);
     let user = context.user_mut();
-    user.in_transaction = false;
+    user.end_transaction();
     user.sequence = user.sequence.saturating_add(1);
     Answer {
         quantity,
@@ -304,7 +305,7 @@ fn back_out(context: &mut Context, user: u8) -> usize {
             undo(context, place, &entry);
         }
     }
-    context.state.users[usize::from(user) - 1].in_transaction = false;
+    context.state.users[usize::from(user) - 1].end_transaction();
     remove_entries(context, |entry| entry.user == user)
 }
 
@@ -329,6 +330,12 @@ fn remove_entries(context: &mut Context, goes: impl Fn(&Entry) -> bool) -> usize
     let removed = hold::remove_where(context.queue, context.images, image_length, count, goes);
     context.state.entries = (count - removed) as u32;
     removed
+}
+
+/// "Command PE sets his open transaction ready."
+fn set_ready(context: &mut Context) -> Answer {
+    context.user_mut().ready = true;
+    Answer::default()
 }
 
 /// "RE writes the ET data; quantity its length, 0 when none."

@@ -6,7 +6,7 @@ use crate::aimed;
 use crate::compare;
 use crate::definition::{self, Definition, Field, File};
 use crate::machine::Machine;
-use crate::state::{Call, COMMANDS};
+use crate::state::{self, Call};
 use crate::store;
 
 /// A splitmix64 generator.
@@ -77,7 +77,7 @@ pub struct List {
     pub calls: Vec<ListCall>,
 }
 
-/// How many calls of a list have a command and an option by turn. In 22 lists with seeds in a row each command comes
+/// How many calls of a list have a command and an option by turn. In 24 lists with seeds in a row each command comes
 /// with each option.
 const TURNS: u64 = 3;
 
@@ -128,11 +128,12 @@ fn add_calls(random: &mut Random, list: &mut List) {
     let mut clock = 0;
     let length = random.between(10, 60);
     let users = random.between(1, 4);
+    let codes = state::codes();
     for place in 0..length {
         let mut list_call = list_call(random, &machine, users, &mut clock);
         if let Some(turn) = turn_at(place, length) {
             let turn = list.seed.wrapping_mul(TURNS).wrapping_add(turn) as usize;
-            list_call.call.command = COMMANDS[turn % COMMANDS.len()].1;
+            list_call.call.command = codes[turn % codes.len()];
             list_call.call.option = options(random)[turn % 5];
         }
         let mut record = list_call.record.clone();
@@ -264,7 +265,7 @@ fn command(random: &mut Random) -> [u8; 2] {
         40..=59 => random.pick(&[*b"HI", *b"L4", *b"A1", *b"E1", *b"RI"]),
         60..=67 => *b"ET",
         68..=69 => *b"OP",
-        _ => random.pick(&COMMANDS).1,
+        _ => random.pick(&state::codes()),
     }
 }
 

@@ -12,8 +12,10 @@ use crate::store;
 type Row = (fn(&Context) -> bool, u16);
 
 /// The rows after the clock, the overdue pass and the opening of a session.
-const ROWS: [Row; 16] = [
+const ROWS: [Row; 18] = [
+    (other_call_while_ready, 211),
     (access_only_user, 29),
+    (pe_without_transaction, 212),
     (file_not_defined, 17),
     (isn_out_of_range, 113),
     (format_buffer_broken, 41),
@@ -86,6 +88,11 @@ pub fn rows_before_clock(
     Ok(command)
 }
 
+/// 211: "another call while ready": "he may only send ET or BT".
+fn other_call_while_ready(context: &Context) -> bool {
+    context.user().ready && !matches!(context.command, Command::Et | Command::Bt)
+}
+
 /// 29: "access-only user, call not OP, CL, L1, RE".
 fn access_only_user(context: &Context) -> bool {
     let allowed = matches!(
@@ -93,6 +100,11 @@ fn access_only_user(context: &Context) -> bool {
         Command::Op | Command::Cl | Command::L1 | Command::Re
     );
     context.user().access_only && !allowed
+}
+
+/// 212: "PE without a transaction".
+fn pe_without_transaction(context: &Context) -> bool {
+    context.command == Command::Pe && !context.user().in_transaction
 }
 
 /// 17: "file not defined (HI to N2; not RI of ISN 0)".
@@ -111,7 +123,7 @@ fn names_file(context: &Context) -> bool {
         | Command::E1
         | Command::N1
         | Command::N2 => true,
-        Command::Et | Command::Bt | Command::Re | Command::Op | Command::Cl => false,
+        Command::Et | Command::Bt | Command::Re | Command::Op | Command::Cl | Command::Pe => false,
     }
 }
 

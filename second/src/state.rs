@@ -25,6 +25,9 @@ pub const COMMANDS: [(Command, [u8; 2]); 13] = [
     (Command::Cl, *b"CL"),
 ];
 
+/// The commands that came later, which have no kind byte.
+pub const LATER_COMMANDS: [(Command, [u8; 2]); 1] = [(Command::Pe, *b"PE")];
+
 #[derive(Clone, Copy, Debug, PartialEq, Eq)]
 pub enum Command {
     Hi,
@@ -40,12 +43,20 @@ pub enum Command {
     Re,
     Op,
     Cl,
+    Pe,
+}
+
+/// The codes of all commands, in the order of both tables.
+pub fn codes() -> Vec<[u8; 2]> {
+    let tables = COMMANDS.iter().chain(&LATER_COMMANDS);
+    tables.map(|(_, code)| *code).collect()
 }
 
 impl Command {
     pub fn from_code(code: [u8; 2]) -> Option<Command> {
         COMMANDS
             .iter()
+            .chain(&LATER_COMMANDS)
             .find(|(_, known)| *known == code)
             .map(|(command, _)| *command)
     }
@@ -111,6 +122,8 @@ pub struct User {
     pub in_transaction: bool,
     /// The clock at which the transaction began.
     pub begun: u32,
+    /// PE set the transaction ready.
+    pub ready: bool,
     pub overdue: bool,
     pub et_length: u8,
     pub et_data: [u8; MAX_ET_DATA],
@@ -130,6 +143,7 @@ impl User {
             access_only: false,
             in_transaction: false,
             begun: 0,
+            ready: false,
             overdue: false,
             et_length: 0,
             et_data: [0; MAX_ET_DATA],
@@ -145,9 +159,16 @@ impl User {
         self.access_only = false;
     }
 
-    /// Whether the transaction began more than the time limit ago.
+    /// The transaction ends, and that it is ready.
+    pub fn end_transaction(&mut self) {
+        self.in_transaction = false;
+        self.ready = false;
+    }
+
+    /// Whether the transaction began more than the time limit ago; of one that is ready time is not asked.
     pub fn is_late(&self, clock: u32) -> bool {
-        self.in_transaction && clock.saturating_sub(self.begun) > u32::from(self.time_limit)
+        let passed = clock.saturating_sub(self.begun);
+        self.in_transaction && !self.ready && passed > u32::from(self.time_limit)
     }
 }
 
@@ -227,10 +248,12 @@ fn of_user_in_transaction(state: &State, entry: &Entry) -> bool {
         && state.users[usize::from(entry.user) - 1].in_transaction
 }
 
-/// "Whoever is in one has a session; no transaction begun after the kept clock"; "ET data at most 64 bytes".
+/// "Whoever is in one has a session; no transaction begun after the kept clock"; whoever is in none is not ready; "ET data
+/// at most 64 bytes".
 fn users_well_made(state: &State) -> bool {
     state.users.iter().all(|user| {
         (!user.in_transaction || (user.session && user.begun <= state.clock))
+            && (user.in_transaction || !user.ready)
             && usize::from(user.et_length) <= MAX_ET_DATA
     })
 }

@@ -78,7 +78,7 @@ fn definition(definition: &Definition) -> String {
 
 fn user(user: &User) -> String {
     format!(
-        "user {} {} {} {} {} {} {} {}",
+        "user {} {} {} {} {} {} {} {} {}",
         user.session,
         user.hold_limit,
         user.time_limit,
@@ -86,6 +86,7 @@ fn user(user: &User) -> String {
         user.access_only,
         user.in_transaction,
         user.begun,
+        user.ready,
         user.overdue
     )
 }
@@ -159,6 +160,7 @@ fn seen_user(user: User) -> User {
     User {
         in_transaction: user.in_transaction,
         begun: if user.in_transaction { user.begun } else { 0 },
+        ready: user.ready,
         overdue: user.overdue,
         et_length: 0,
         et_data: User::fresh().et_data,

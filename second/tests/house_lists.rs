@@ -134,7 +134,12 @@ fn every_response_has_every_response() {
             (number, _) => format!("{name} {number}"),
         });
     }
-    assert_eq!(responses, REACHED.into());
+    // 211 and 212 come of PE, which has no kind byte.
+    let reached: BTreeSet<&str> = REACHED
+        .into_iter()
+        .filter(|label| !matches!(*label, "211" | "212"))
+        .collect();
+    assert_eq!(responses, reached);
     for wanted in [
         "HI 0",
         "RI of one: true",

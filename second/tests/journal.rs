@@ -156,6 +156,31 @@ mod by_hand {
         assert_eq!(limited("OP limit=5 -> 0 0\nCL -> 9 0"), 0);
     }
 
+    /// Time does not back out whom a PE answered 0 has set ready, until his transaction ends.
+    #[test]
+    fn journal_waits_for_who_is_ready() {
+        let after = |lines: &str| {
+            let start = "HI isn=2 -> 0 2\nN1 format=AA. record=41 -> 0 1";
+            let journal = fed(&format!("{start}\n{lines}"));
+            (records(&journal).len(), journal.in_transaction())
+        };
+        let late = "L1 user=2 isn=1 clock=901 -> 0 1";
+        assert_eq!(after(late), (0, vec![]));
+        assert_eq!(after(&format!("PE -> 0 0\n{late}")), (1, vec![1]));
+        assert_eq!(
+            after(&format!("PE -> 0 0\n{late}\nET user=1 -> 0 0")),
+            (1, vec![])
+        );
+        for refused in ["211", "212", "29", "9"] {
+            let lines = format!("PE -> {refused} 0\n{late}");
+            assert_eq!(after(&lines), (0, vec![]), "{refused}");
+        }
+        for ends in ["ET -> 0 0", "BT -> 0 0", "OP -> 9 0", "CL -> 9 0"] {
+            let lines = format!("PE -> 0 0\n{ends}\nHI isn=3 -> 0 3\n{late}");
+            assert_eq!(after(&lines).1, [], "{ends}");
+        }
+    }
+
     /// A hold starts the transaction, and it keeps that start though RI drops every entry.
     #[test]
     fn journal_keeps_the_start_of_a_transaction() {

@@ -63,6 +63,7 @@ options! {
     re "RE", b"";
     op "OP", b"A";
     cl "CL", b"";
+    pe "PE", b"";
 }
 
 // 72: user not 1 to 32
@@ -85,7 +86,7 @@ fn check_users(letters: &str) {
 
 each_command! { r72, check_users:
     hi "HI"; ri "RI"; l1 "L1"; l4 "L4"; a1 "A1"; e1 "E1"; n1 "N1"; n2 "N2"; et "ET"; bt "BT"; re "RE"; op "OP";
-    cl "CL";
+    cl "CL"; pe "PE";
 }
 
 // 9: overdue mark
@@ -124,12 +125,12 @@ fn check_own_call(letters: &str) {
 
 each_command! { r9_mark, check_mark:
     hi "HI"; ri "RI"; l1 "L1"; l4 "L4"; a1 "A1"; e1 "E1"; n1 "N1"; n2 "N2"; et "ET"; bt "BT"; re "RE"; op "OP";
-    cl "CL";
+    cl "CL"; pe "PE";
 }
 
 each_command! { r9_own_call, check_own_call:
     hi "HI"; ri "RI"; l1 "L1"; l4 "L4"; a1 "A1"; e1 "E1"; n1 "N1"; n2 "N2"; et "ET"; bt "BT"; re "RE"; op "OP";
-    cl "CL";
+    cl "CL"; pe "PE";
 }
 
 // 9: OP or CL in a transaction
@@ -156,6 +157,72 @@ each_command! { r9_in_transaction, check_in_transaction:
     cl "CL";
 }
 
+// 211: another call while ready, after 9
+
+/// Nothing but the clock goes on.
+fn check_ready(letters: &str) {
+    let call = good_call(letters);
+    let mut bench = bench();
+    bench.run(
+        "N1 format=AA. record=31 -> 0 1 0 0
+         PE -> 0 0 0 0",
+    );
+    let mut expected = bench.machine.clone();
+    bench.run(&format!("{call} clock=7 -> 211 0 0 0"));
+    expected.state.clock = 7;
+    assert_eq!(bench.machine, expected);
+}
+
+each_command! { r211, check_ready:
+    hi "HI"; ri "RI"; l1 "L1"; l4 "L4"; a1 "A1"; e1 "E1"; n1 "N1"; n2 "N2"; re "RE"; pe "PE";
+}
+
+row! { r211_not:
+    et "N1 format=AA. record=31 -> 0 1 0 0
+        PE -> 0 0 0 0
+        ET length=65 -> 53 0 0 0
+        HI isn=1 -> 211 0 0 0
+        ET -> 0 0 1 1
+        HI isn=1 -> 0 1 0 0";
+    bt "N1 format=AA. record=31 -> 0 1 0 0
+        PE -> 0 0 0 0
+        BT -> 0 0 1 0
+        HI isn=1 -> 0 1 0 0
+        L1 isn=1 format=AA. length=1 -> 113 0 0 0";
+    op "N1 format=AA. record=31 -> 0 1 0 0
+        PE -> 0 0 0 0
+        OP limit=5 -> 9 0 0 0
+        L1 isn=1 format=AA. length=1 -> 113 0 0 0";
+    cl "N1 format=AA. record=31 -> 0 1 0 0
+        PE -> 0 0 0 0
+        CL -> 9 0 0 0
+        L1 isn=1 format=AA. length=1 -> 113 0 0 0";
+    another_user "HI isn=1 -> 0 1 0 0
+        PE -> 0 0 0 0
+        HI user=2 isn=2 -> 0 2 0 0
+        HI user=2 isn=1 -> 145 0 0 0";
+    bad_calls "HI isn=1 -> 0 1 0 0
+        PE -> 0 0 0 0
+        XX -> 22 0 0 0
+        HI option=I isn=1 -> 22 0 0 0
+        HI user=0 isn=1 -> 72 0 0 0";
+}
+
+/// Time does not back a ready user out, but does so in his next transaction.
+#[test]
+fn ready_past_the_time_limit() {
+    bench().run(
+        "N1 format=AA. record=31 -> 0 1 0 0
+         PE clock=900 -> 0 0 0 0
+         L1 user=2 isn=1 format=AA. length=1 clock=901 -> 0 1 1 0 31
+         ET user=1 clock=10901 -> 0 0 1 1
+         HI isn=2 clock=10901 -> 0 2 0 0
+         L1 user=2 isn=1 format=AA. length=1 clock=11802 -> 0 1 1 0 31
+         PE user=1 -> 9 0 0 0
+         PE -> 212 0 0 0",
+    );
+}
+
 // 29: access-only user, call not OP, CL, L1, RE
 
 fn check_access_only(letters: &str) {
@@ -167,7 +234,7 @@ fn check_access_only(letters: &str) {
 }
 
 each_command! { r29, check_access_only:
-    hi "HI"; ri "RI"; l4 "L4"; a1 "A1"; e1 "E1"; n1 "N1"; n2 "N2"; et "ET"; bt "BT";
+    hi "HI"; ri "RI"; l4 "L4"; a1 "A1"; e1 "E1"; n1 "N1"; n2 "N2"; et "ET"; bt "BT"; pe "PE";
 }
 
 row! { r29_not:
@@ -182,6 +249,20 @@ row! { r29_not:
     cl "OP option=A -> 0 0 0 0
         CL -> 0 0 0 0
         HI isn=1 -> 0 1 0 0";
+}
+
+// 212: PE without a transaction, after 29
+
+row! { r212:
+    pe "PE -> 212 0 0 0
+        HI isn=1 -> 0 1 0 0
+        BT -> 0 0 1 0
+        PE -> 212 0 0 0
+        HI isn=1 -> 0 1 0 0
+        RI isn=0 -> 0 0 1 0
+        PE -> 0 0 0 0";
+    after_29 "OP option=A -> 0 0 0 0
+        PE -> 29 0 0 0";
 }
 
 // 17: file not defined (HI to N2; not RI of ISN 0)

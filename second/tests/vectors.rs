@@ -1,14 +1,14 @@
-//! The examples of the Command Reference, run.
+//! The examples of the Command Reference and of PE, run.
 
 use second::vectors::{read, run};
 
-const FILE: &str = concat!(env!("CARGO_MANIFEST_DIR"), "/vectors/command-reference.txt");
+const VECTORS: &str = concat!(env!("CARGO_MANIFEST_DIR"), "/vectors");
 
-#[test]
-fn command_reference() {
-    let text = std::fs::read_to_string(FILE).expect("the vector file");
+/// Each example of a file says where it comes from, and is answered so.
+fn check_file(name: &str, least: usize) {
+    let text = std::fs::read_to_string(format!("{VECTORS}/{name}")).expect("the vector file");
     let examples = read(&text).expect("a good vector file");
-    assert!(examples.len() >= 12, "{} examples", examples.len());
+    assert!(examples.len() >= least, "{} examples", examples.len());
     for example in &examples {
         assert!(!example.section.is_empty(), "{}: no section", example.name);
         assert!(!example.words.is_empty(), "{}: no words", example.name);
@@ -19,6 +19,16 @@ fn command_reference() {
         .filter_map(|example| run(example).err())
         .collect();
     assert!(differing.is_empty(), "{}", differing.join("\n"));
+}
+
+#[test]
+fn command_reference() {
+    check_file("command-reference.txt", 12);
+}
+
+#[test]
+fn ready() {
+    check_file("ready.txt", 8);
 }
 
 const EXAMPLE: &str = "

@@ -78,7 +78,7 @@ fn states_equal(both: &Both) -> bool {
         && marks_equal(both, &expected)
 }
 
-/// What belongs to no session or to no transaction decides nothing.
+/// What belongs to no session or to no transaction decides nothing, but that nobody without one is ready.
 fn seen(user: raw::User) -> raw::User {
     let mut seen = match user.session {
         true => user,
@@ -86,7 +86,10 @@ fn seen(user: raw::User) -> raw::User {
     };
     seen.transaction = match user.transaction.active {
         true => user.transaction,
-        false => raw::Transaction::default(),
+        false => raw::Transaction {
+            ready: user.transaction.ready,
+            ..raw::Transaction::default()
+        },
     };
     seen.overdue = user.overdue;
     seen

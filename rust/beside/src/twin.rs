@@ -221,6 +221,7 @@ pub fn user(user: &User) -> raw::User {
         transaction: raw::Transaction {
             begun: user.begun,
             active: user.in_transaction,
+            ready: user.ready,
         },
         hold_limit: user.hold_limit,
         time_limit: user.time_limit,

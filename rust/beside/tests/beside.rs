@@ -130,6 +130,10 @@ const AFTER_GOOD: &[Tamper] = &[
         "the states differ",
     ),
     (
+        |scene| scene.twin.state.users[0].transaction.ready = true,
+        "the states differ",
+    ),
+    (
         |scene| scene.twin.state.users[4].overdue = true,
         "the states differ",
     ),

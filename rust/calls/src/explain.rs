@@ -18,7 +18,7 @@ pub fn refusal(table: &[u8], call: &Call, number: u16) -> Option<String> {
 pub fn response(number: u16) -> String {
     match Response::from_number(number) {
         Some(response) => response.to_string(),
-        None => format!("{number}: document 01 has no such response."),
+        None => format!("{number}: there is no such response."),
     }
 }
 

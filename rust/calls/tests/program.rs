@@ -7,6 +7,10 @@ const VECTORS: &str = concat!(
     env!("CARGO_MANIFEST_DIR"),
     "/../../second/vectors/command-reference.txt"
 );
+const READY: &str = concat!(
+    env!("CARGO_MANIFEST_DIR"),
+    "/../../second/vectors/ready.txt"
+);
 const LISTS: &str = concat!(env!("CARGO_MANIFEST_DIR"), "/../../second/lists");
 
 /// Runs the program on a text.
@@ -82,7 +86,7 @@ fn prints_each_call_with_its_answer_and_why() {
     }
 }
 
-/// The Command Reference's vectors, and the sources of the house call lists that have no bad input.
+/// The Command Reference's vectors, those of PE, and the sources of the house call lists that have no bad input.
 #[test]
 fn the_saved_lists_are_as_expected() {
     let sources = [
@@ -94,7 +98,7 @@ fn the_saved_lists_are_as_expected() {
         "packed-signs",
         "command-reference-1",
     ];
-    let mut files = vec![VECTORS.to_string()];
+    let mut files = vec![VECTORS.to_string(), READY.to_string()];
     files.extend(sources.map(|name| format!("{LISTS}/{name}.txt")));
     let files: Vec<&str> = files.iter().map(String::as_str).collect();
     for implementation in [&["--check"][..], &["--check", "--second"]] {

@@ -12,8 +12,8 @@ macro_rules! commands {
         }
 
         impl Command {
-            /// Every command, in document 01's order.
-            pub const ALL: [Command; 13] = [$(Command::$name),*];
+            /// Every command, in document 01's order, and behind them those that came later.
+            pub const ALL: [Command; 14] = [$(Command::$name),*];
 
             /// The two letters.
             pub fn code(self) -> [u8; 2] {
@@ -39,6 +39,7 @@ commands! {
     Re = b"RE", "Reads the user's ET data.";
     Op = b"OP", "Opens a session: the ISN is its hold limit, the limit its time limit.";
     Cl = b"CL", "Closes the session.";
+    Pe = b"PE", "Sets the transaction ready: until ET or BT ends it the user may call nothing else, and no time limit backs it out.";
 }
 
 /// A command option.

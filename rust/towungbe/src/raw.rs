@@ -57,6 +57,8 @@ pub struct Transaction {
     /// The clock at which it began.
     pub begun: u32,
     pub active: bool,
+    /// PE set it ready. Whoever is ready and in no transaction makes a state one that is not well made.
+    pub ready: bool,
 }
 
 #[repr(C)]

@@ -4,7 +4,7 @@ use std::fmt;
 
 macro_rules! responses {
     ($($(#[$about:meta])* $name:ident = $number:literal, $explanation:literal;)*) => {
-        /// A response of document 01, in the order of its numbers.
+        /// A response of document 01 or 02, in the order of their numbers.
         #[derive(Clone, Copy, Debug, PartialEq, Eq, PartialOrd, Ord, Hash)]
         pub enum Response {
             $($(#[$about])* #[doc = $explanation] $name = $number,)*
@@ -47,6 +47,8 @@ responses! {
     HeldByAnother = 145, "Another user holds the ISN.";
     Changed = 146, "The user has changed the record, so RI cannot release it: ET or BT ends the transaction.";
     ValueTaken = 198, "A unique value is taken: another record has it, or gets it back if another user backs out.";
+    TransactionReady = 211, "PE has set the user's transaction ready: ET or BT must end it first.";
+    NoTransaction = 212, "PE is called without an open transaction.";
 }
 
 impl Response {
@@ -54,7 +56,7 @@ impl Response {
         self as u16
     }
 
-    /// The response with this number; none where document 01 has none.
+    /// The response with this number; none where there is none.
     ///
     /// ```
     /// use towungbe::Response;

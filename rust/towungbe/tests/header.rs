@@ -58,7 +58,7 @@ fn the_types_have_one_layout() {
         "towungbe_entry" Entry: user file isn changed existed;
         "towungbe_field" Field: first second length format option;
         "towungbe_file" File: number count max_isn fields;
-        "towungbe_transaction" Transaction: begun active;
+        "towungbe_transaction" Transaction: begun active ready;
         "towungbe_user" User: sequence transaction hold_limit time_limit session access_only overdue;
         "towungbe_et_data" EtData: length bytes;
         "towungbe_state" State: count files clock users et_data last_assigned entries;

@@ -1,5 +1,5 @@
 //! The crate over the library: any bytes are answered, buffers stay as they are past their sizes, and each response of
-//! document 01 has its name.
+//! the documents has its name.
 
 use towungbe::raw::{self, Block, Entry, Lent, State};
 use towungbe::{Buffers, Call, Command, CommandOption, Nucleus, Response};
@@ -19,9 +19,10 @@ fn call(nucleus: &mut Nucleus, call: Call, format: &[u8], record: &[u8]) -> Resp
 }
 
 #[test]
-fn the_responses_are_document_01s() {
+fn the_responses_are_the_documents() {
     let numbers = [
         0, 3, 9, 10, 11, 12, 17, 22, 29, 41, 44, 47, 53, 55, 70, 72, 75, 113, 144, 145, 146, 198,
+        211, 212,
     ];
     assert_eq!(Response::ALL.map(Response::number), numbers);
     for number in 0..=u16::MAX {
@@ -202,7 +203,7 @@ fn a_state_that_is_not_well_made_gets_12() {
     assert_eq!(response_on(&mut State::default()), 12, "nothing set up");
     let good = *nucleus().state();
     assert_eq!(response_on(&mut good.clone()), 0);
-    let spoilers: [fn(&mut State); 8] = [
+    let spoilers: [fn(&mut State); 9] = [
         |state| state.files[0].fields[0].format = 4,
         |state| state.files[0].fields[1].option = 3,
         |state| state.files[1].fields[0].length = 254,
@@ -210,6 +211,7 @@ fn a_state_that_is_not_well_made_gets_12() {
         |state| state.entries = 5,
         |state| state.et_data[31].length = 65,
         |state| state.users[3].transaction.active = true,
+        |state| state.users[3].transaction.ready = true,
         |state| state.last_assigned[0] = 4,
     ];
     for (place, spoil) in spoilers.iter().enumerate() {
@@ -219,6 +221,26 @@ fn a_state_that_is_not_well_made_gets_12() {
         assert_eq!(response_on(&mut state), 12, "{place}");
         assert_eq!(state, spoilt, "all is left as it was");
     }
+}
+
+/// PE: the record of a transaction that is ready waits for its ET, however late that comes.
+#[test]
+fn a_ready_transaction_waits() {
+    let mut nucleus = nucleus();
+    let by_user_1 = |command| Call::new(command, 1).with_file(1);
+    let pe = by_user_1(Command::Pe);
+    let reads = Call::new(Command::L1, 2).with_file(1).with_isn(1);
+    let mut make =
+        |made: Call, format: &[u8], record: &[u8]| call(&mut nucleus, made, format, record);
+    assert_eq!(make(pe, b"", b""), Response::NoTransaction);
+    assert_eq!(make(by_user_1(Command::N1), b"RC.", b"2"), Response::Good);
+    assert_eq!(make(pe, b"", b""), Response::Good);
+    assert_eq!(make(pe, b"", b""), Response::TransactionReady);
+    assert_eq!(make(reads.with_clock(901), b"RC.", b" "), Response::Good);
+    let et = by_user_1(Command::Et).with_clock(10_000);
+    assert_eq!(make(et, b"", b""), Response::Good);
+    assert_eq!(make(reads, b"RC.", b" "), Response::Good);
+    assert!(!nucleus.state().users[0].transaction.ready);
 }
 
 /// A lent X'5B' counts as it is, while what a call brings is stored with D.

@@ -78,7 +78,7 @@ pub fn bench() -> Bench {
 }
 
 /// The arguments that let each command pass the rows that look at arguments only.
-pub const GOOD_CALLS: [&str; 13] = [
+pub const GOOD_CALLS: [&str; 14] = [
     "HI isn=1",
     "RI isn=1",
     "L1 isn=1 format=AA. length=1",
@@ -92,6 +92,7 @@ pub const GOOD_CALLS: [&str; 13] = [
     "RE length=64",
     "OP",
     "CL",
+    "PE",
 ];
 
 /// The call of `GOOD_CALLS` with this command.
