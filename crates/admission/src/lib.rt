@@ -1,4 +1,4 @@
-// What comes before a command that is understood (document 01, 'Responses'): the clock with its back-outs, 9, the session that opens, 29.
+// What comes before a command that is understood (document 01, 'Responses'): the clock with its back-outs, 9, the session that opens, 211, 29, 212.
 ghost use mathlib.Core.List.{List};
 ghost use mathlib.Core.Path.{_≡_};
 ghost use Prim.Native.Nat.{ℕ, _-_, max};
@@ -63,7 +63,7 @@ fn latest(a: u32, b: u32) -> u32
     if a < b { b } else { a }
 }
 
-// The clock with its back-outs, 9, the session that opens, and 29; whatever else the state keeps.
+// The clock with its back-outs, 9, the session that opens, and 211, 29 and 212; whatever else the state keeps.
 pub fn admit(
     command: Command,
     call: Call,

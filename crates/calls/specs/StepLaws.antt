@@ -80,7 +80,7 @@ module _ (capacity : ℕ) (call : Call) (format buffer : List ℕ) (n : Nucleus)
     step-misunderstood cause e = rw (usable, e)
 
     module _ (c : Command) (understood : first-cause (rows-understood direct-commands call) ≡ none) (known : command-of direct-commands (call .command) ≡ some c) (m : Nucleus) where
-      -- 9 and 29
+      -- 9, 211, 29 and 212
       pub step-turned : (cause : Response) → admitted-user c call (clocked (call .clock) n) ≡ turned-away cause m → step capacity call format buffer n ≡ refusal buffer m cause
       unfolding step admitted
       step-turned cause e = rw (usable, understood, known, e)

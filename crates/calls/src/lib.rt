@@ -227,7 +227,7 @@ fn assigned_with(mut assigned: [u16; MAX_FILES], found: Found, isn: u16) -> [u16
     assigned
 }
 
-// A command past 29: the caller's share of the state goes to it, and what it leaves of that goes back.
+// A command past 212: the caller's share of the state goes to it, and what it leaves of that goes back.
 fn serve(
     command: Command,
     mut state: State,

@@ -75,7 +75,7 @@ fn put_hexadecimal(bytes: &[u8], at: usize, out: &mut [u8]) -> usize
     to
 }
 
-// The direct-commands that read.
+// The commands that read.
 fn reads(command: Command) -> bool
     ensures { λ r. ⌜ r ≡ shows (some command) ⌝ }
 {

@@ -1,4 +1,4 @@
--- A group of direct-commands that code tests by a `match`: the direct-commands of its first arm are those of the group, those of the second all others.
+-- A group of commands that code tests by a `match`: the commands of its first arm are those of the group, those of the second all others.
 -- Assumes nothing.
 use Prim.Native.Nat.{ℕ}
 use mathlib.Core.Path.{_≡_, refl, sym, _∙_, ap}
