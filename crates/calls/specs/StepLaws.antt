@@ -2,11 +2,10 @@
 -- Assumes nothing.
 use Prim.Native.Nat.{ℕ, _-_, _≤_}
 use mathlib.Core.Path.{_≡_, sym, ap, _∙_}
-use mathlib.Core.Bool.{true, false, not}
-use mathlib.Core.List.{List, [], _∷_}
+use mathlib.Core.Bool.{true}
+use mathlib.Core.List.{List}
 use mathlib.Core.Option.{none, some}
 use lib.ListN.{length, getD, set}
-use borrow.Author.Tests.{not-false}
 use Rattle.definition.specs.Table.{file-at}
 use Rattle.definition.specs.Shape.{DefinitionShape}
 use Rattle.definition.specs.declared.Definition.{Definition}
@@ -21,19 +20,16 @@ use Rattle.nucleus.specs.Users.{fresh-user}
 use Rattle.nucleus.specs.Nucleus.{Nucleus, nucleus, request, result, beyond-data}
 use Rattle.nucleus.specs.Target.{assigned-in}
 use Rattle.nucleus.specs.Clock.{clocked}
-use Rattle.nucleus.specs.WellMade.{too-short, well-made}
-use Rattle.nucleus.specs.Rows.{Row, row, first-cause, rows-usable, rows-understood}
+use Rattle.nucleus.specs.Rows.{first-cause, rows-usable, rows-understood}
 use Rattle.nucleus.specs.Step.{turned-away, let-in, admitted-user, admitted, refusal, perform, step}
 use Rattle.nucleus.specs.declared.Call.{Call}
 use Rattle.nucleus.specs.declared.Command.{Command}
 use Rattle.nucleus.specs.declared.EtData.{EtData}
 use Rattle.nucleus.specs.declared.Response.{Response}
-use Rattle.nucleus.specs.declared.Response.the-variants.{BufferTooShort, StateInvalid}
 use Rattle.nucleus.specs.declared.State.{State}
 use Rattle.nucleus.specs.declared.User.{User}
 use Rattle.shares.specs.Shares.{share, assigned-with, with-share}
 use Rattle.shares.specs.Chains.{max-scratch}
-use Rattle.shares.specs.Laws.{row-passed}
 use Rattle.shares.specs.declared.Done.{Done}
 use Rattle.overdue.specs.Parts.{parts}
 use Rattle.shares.specs.declared.Verdict.{Verdict}
@@ -45,22 +41,6 @@ use Rattle.understanding.specs.declared.Understood.the-variants.{As}
 use Rattle.file_commands.specs.FileCommands.{left}
 use Rattle.calls.specs.Commands.{performed}
 use Rattle.calls.specs.Laws.{left-on, performed-is}
-
--- ---- what a nucleus that is usable has
-module _ (capacity : ℕ) (n : Nucleus) (usable : first-cause (rows-usable capacity n) ≡ none) where
-  abbrev rest : List Row
-  rest = row BufferTooShort (too-short (n .state .definition) capacity (n .store) (n .queue) (n .images)) ∷ row StateInvalid (not (well-made capacity n)) ∷ []
-
-  valid-first : not (valid (n .state .definition)) ≡ false
-  unfolding rows-usable
-  valid-first = row-passed (row StateInvalid (not (valid (n .state .definition)))) rest usable
-
-  pub usable-valid : valid (n .state .definition) ≡ true
-  usable-valid = not-false (valid (n .state .definition)) valid-first
-
-  pub usable-long : too-short (n .state .definition) capacity (n .store) (n .queue) (n .images) ≡ false
-  unfolding rows-usable
-  usable-long = row-passed (row BufferTooShort (too-short (n .state .definition) capacity (n .store) (n .queue) (n .images))) (row StateInvalid (not (well-made capacity n)) ∷ []) (rw valid-first at usable)
 
 -- a new record of a valid table's file has its room
 pub small-record : (d : Definition) → DefinitionShape d → valid d ≡ true → (file i : ℕ) → place d file ≡ At i → record-length (file-at d i) ≤ max-scratch

@@ -24,6 +24,7 @@ use Rattle.elements.specs.Elements.{field-named, format-valid, element, places,
 use Rattle.fields.specs.Fields.{fits, read-fields, write-fields, values-allowed}
 use Rattle.nulls.specs.Nulls.{null-record}
 use Rattle.store.specs.Store.{slot-fits, has-record, get, put-record, empty, fresh, file-part, with-part}
+use Rattle.committed.specs.Committed.{committed-version, version-there, version-bytes}
 use Rattle.search.specs.Search.{lowest, elsewhere}
 use Rattle.entries.specs.Entries.{pack-of, unpack-of, entries}
 use Rattle.queue.specs.Queue.{holder, held-by, append}
@@ -322,7 +323,7 @@ record Worked : Type 0 where
   journal-rows-as-expected : Each (λ (r : JournalRow). r .computed ≡ r .expected) journal-rows
 
 worked : Worked
-unfolding house-table house-calls two-adds erasing replacing-nothing ready-list packed-table rows journal-rows record-length field-offset file-offset store-size image-length place valid file-valid field-valid name-valid format-of option-of file-item field-item item-of read-from read-table stored below-zero allowed null-value field-named format-valid element places named-twice length-needed needed-within fits read-fields write-fields values-allowed null-record slot-fits has-record get lowest elsewhere put-record empty fresh file-part with-part pack-of unpack-of entries holder held-by repeated append change closed remove-queue remove-images remove-count image-has keep-image settled first-change-queue first-change-images put-back-in put-back restore command-of has-option too-short well-made removed backed-out clocked target rows-usable rows-understood is-overdue session-in-transaction ready-refused access-refused transaction-missing file-unknown isn-invalid format-refused field-twice record-length-refused value-refused none-found held-elsewhere presence-refused not-held release-refused file-full limit-reached queue-full new-record value-taken held imaged written erased effect-at admitted-session admitted-user admitted perform step set-up fitting direct-call set-up-database apply struck log-clock log-start log-change log-end log-limit log-ready fed record-told run
+unfolding house-table house-calls two-adds erasing replacing-nothing ready-list packed-table rows journal-rows record-length field-offset file-offset store-size image-length place valid file-valid field-valid name-valid format-of option-of file-item field-item item-of read-from read-table stored below-zero allowed null-value field-named format-valid element places named-twice length-needed needed-within fits read-fields write-fields values-allowed null-record slot-fits has-record get lowest elsewhere put-record empty fresh file-part with-part pack-of unpack-of entries holder held-by repeated append change closed remove-queue remove-images remove-count image-has keep-image settled first-change-queue first-change-images put-back-in put-back restore command-of has-option too-short well-made removed backed-out clocked target rows-usable rows-understood is-overdue session-in-transaction ready-refused access-refused transaction-missing file-unknown isn-invalid format-refused field-twice record-length-refused value-refused none-found held-elsewhere committed-version version-there version-bytes presence-refused not-held release-refused file-full limit-reached queue-full new-record value-taken held imaged written erased effect-at admitted-session admitted-user admitted perform step set-up fitting direct-call set-up-database apply struck log-clock log-start log-change log-end log-limit log-ready fed record-told run
 worked = record {
   good = refl;
   chosen = record { different = refl; active = refl };

@@ -5,7 +5,7 @@ use mathlib.Core.Path.{_≡_}
 use mathlib.Core.Logic.{_⊎_}
 use mathlib.Core.Bool.{Bool, true, false, not, _&&_}
 use mathlib.Core.List.{List, [], _∷_, map}
-use mathlib.Core.Option.{some}
+use mathlib.Core.Option.{Option, none, some}
 use lib.Dec.{eqb}
 use lib.ListN.{length}
 use Rattle.lists.specs.Tests.{within}
@@ -13,22 +13,22 @@ use Rattle.lists.specs.Folds.{any, all}
 use Rattle.lists.specs.Sift.{sift}
 use Rattle.definition.specs.Table.{fields-of}
 use Rattle.definition.specs.declared.Definition.{Definition}
-use Rattle.fields.specs.Fields.{write-fields}
+use Rattle.fields.specs.Fields.{read-fields, write-fields}
 use Rattle.nulls.specs.Nulls.{nulls}
 use Rattle.reading.specs.Grammar.{read-table}
-use Rattle.nucleus.specs.Commands.{code, blank}
+use Rattle.nucleus.specs.Commands.{code, blank, option-C}
 use Rattle.nucleus.specs.Users.{is-active}
 use Rattle.nucleus.specs.Responses.{number}
 use Rattle.nucleus.specs.Nucleus.{Nucleus, Given, max-users, max-et-data, user-at}
 use Rattle.nucleus.specs.WellMade.{too-short, well-made}
 use Rattle.entries.specs.declared.Entry.{Entry}
-use Rattle.database.specs.Database.{Database, in-words, set-up-database}
+use Rattle.database.specs.Database.{Database, Reply, in-words, direct-part, set-up-database}
 use Rattle.nucleus.specs.declared.Call.{Call}
-use Rattle.nucleus.specs.declared.Command.the-variants.{N1, N2, Et, Bt, Pe}
+use Rattle.nucleus.specs.declared.Command.the-variants.{L1, N1, N2, Et, Bt, Pe}
 use Rattle.nucleus.specs.declared.Response.the-variants.{Good}
 use Rattle.claim.specs.Journal.{Journal, Change, commits, in-transaction, fed, record-told}
-use Rattle.claim.specs.Run.{World, BackOut, call-given, called, run, begin, bt, back-outs, struck-all}
-use Rattle.claim.specs.Claim.{file-numbered, Chosen}
+use Rattle.claim.specs.Run.{World, BackOut, call-given, called, run, begin, bt, back-outs, struck-all, record-in}
+use Rattle.claim.specs.Claim.{file-numbered, users-of, Chosen}
 use Rattle.claim.specs.Answers.{Answered, answers, fed-all}
 use Rattle.claim.specs.Lent.{Lent, lent-at, Past}
 
@@ -123,6 +123,59 @@ ReadyEnds =
     → of-others (pe .call .user) others ≡ true
     → CanEnd capacity (pe .call .user) (called capacity pe (run capacity calls (begin capacity store queue images table)))
     (run capacity others (called capacity pe (run capacity calls (begin capacity store queue images table))))
+
+-- ---- document 02, No. 8: "For every list of calls, a `C` reading is what backing all users out at that moment would leave"
+-- one BT of each user whom the journal has in a transaction, in any order
+pub record Everyone (bs : List BackOut) (j : Journal) : Type 0 where
+  pub chosen : Chosen bs j
+  pub none-left : (u : ℕ) → in-transaction j u ≡ true → any (eqb u) (users-of bs) ≡ true
+
+-- there always is such a list
+abbrev pub EveryoneListed : Type 0
+EveryoneListed = (j : Journal) → (bs : List BackOut) × Everyone bs j
+
+-- the record that they would leave at a file and ISN, if any
+abbrev pub record-after : ℕ → Definition → List BackOut → Database → ℕ → ℕ → Option (List ℕ)
+record-after capacity d bs b file isn = record-in d (back-outs capacity bs b .store) file isn
+
+abbrev pub is-record : Option (List ℕ) → Bool
+is-record none = false
+is-record (some bytes) = true
+
+-- no bytes where there is none
+abbrev pub bytes-of : Option (List ℕ) → List ℕ
+bytes-of none = []
+bytes-of (some bytes) = bytes
+
+-- the whole record as a part
+abbrev pub CommittedPart : Type 0
+CommittedPart =
+    (capacity : ℕ) (table store : List ℕ) (queue : List Entry) (images : List ℕ) (calls : List Given) (bs : List BackOut) (file isn : ℕ)
+    → set-up-database capacity store queue images table .response ≡ Good
+    → Everyone bs (run capacity calls (begin capacity store queue images table) .journal)
+    → direct-part capacity (run capacity calls (begin capacity store queue images table) .database) file isn
+    ≡ bytes-of (record-after capacity (read-table table .definition) bs (run capacity calls (begin capacity store queue images table) .database) file isn)
+
+-- an L1 with option `C`; what else the call has may be anything
+pub record IsCommittedRead (g : Given) : Type 0 where
+  pub command : g .call .command ≡ code L1
+  pub option : g .call .option ≡ option-C
+
+-- answered 0, it has read the named fields of a record; answered 113, there is none
+pub record Reads (d : Definition) (g : Given) (r : Reply) (x : Option (List ℕ)) : Type 0 where
+  pub there : number (r .answer .response) ≡ 0 → is-record x ≡ true
+  pub fields-read : number (r .answer .response) ≡ 0 → r .buffer ≡ read-fields (file-numbered d (g .call .file)) (g .format) (bytes-of x) (g .buffer)
+  pub not-there : number (r .answer .response) ≡ 113 → x ≡ none
+
+-- the moment is that after the call's own clock and session, and a reading leaves all else as it was
+abbrev pub CommittedRead : Type 0
+CommittedRead =
+    (capacity : ℕ) (table store : List ℕ) (queue : List Entry) (images : List ℕ) (calls : List Given) (g : Given) (bs : List BackOut)
+    → set-up-database capacity store queue images table .response ≡ Good
+    → IsCommittedRead g
+    → Everyone bs (called capacity g (run capacity calls (begin capacity store queue images table)) .journal)
+    → Reads (read-table table .definition) g (call-given capacity g (run capacity calls (begin capacity store queue images table)))
+    (record-after capacity (read-table table .definition) bs (called capacity g (run capacity calls (begin capacity store queue images table)) .database) (g .call .file) (g .call .isn))
 
 -- ---- of the journal alone
 -- "is fed each call's arguments, response and ISN": nothing else of the nucleus comes into it

@@ -8,6 +8,9 @@ use lib.ListN.{length, take, drop}
 use Rattle.lists.specs.Tests.{cond}
 use Rattle.entries.specs.Entries.{pack-of, unpack-of}
 use Rattle.entries.specs.declared.Entry.{Entry}
+use Rattle.committed.specs.Committed.{bytes-at}
+use Rattle.committed.specs.declared.Place.{Place}
+use Rattle.nucleus.specs.Committed.{committed-place}
 use Rattle.nucleus.specs.Nucleus.{Nucleus, nucleus, Result, max-capacity}
 use Rattle.nucleus.specs.Step.{SetUp, step, set-up}
 use Rattle.nucleus.specs.declared.Call.{Call}
@@ -61,6 +64,14 @@ reply-of capacity queue r = reply (r .answer) (from-words capacity queue (r .nuc
 
 unfoldable pub direct-call : ℕ → Call → List ℕ → List ℕ → Database → Reply
 direct-call capacity call format buffer b = reply-of capacity (b .queue) (step capacity call format buffer (in-words capacity b))
+
+-- ---- the record as a part (document 02, No. 8), which is no call
+unfoldable pub direct-place : ℕ → Database → ℕ → ℕ → Place
+direct-place capacity b file isn = committed-place (in-words capacity b) file isn capacity
+
+-- its bytes
+abbrev pub direct-part : ℕ → Database → ℕ → ℕ → List ℕ
+direct-part capacity b file isn = bytes-at (direct-place capacity b file isn) (b .store) (b .images)
 
 -- ---- set-up, which looks at the queue's length alone
 pub record SetUpDatabase : Type 0 where

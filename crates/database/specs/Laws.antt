@@ -1,4 +1,5 @@
--- A call on as many entries as fit is the call with the capacity as it came: where that does not fit both are refused alike, and leave all.
+-- A call on as many entries as fit is the call with the capacity as it came: where that does not fit both are refused alike, and leave all. So is
+-- the place of a record: there is none then.
 -- Assumes nothing.
 use Prim.Native.Nat.{ℕ, _<_, _≤_}
 use native.Mathlib.Omega.{arith}
@@ -11,10 +12,12 @@ use borrow.Author.Tests.{ltb-false, ltb-true, lt-ltb}
 use Rattle.lists.specs.Tests.{cond, within, within-above, or-true, Outcome, holds, fails, outcome}
 use Rattle.definition.specs.declared.Definition.{Definition}
 use Rattle.validity.specs.Validity.{valid}
+use Rattle.committed.specs.Committed.{no-place}
 use Rattle.nucleus.specs.Nucleus.{Nucleus, nucleus, Result, max-capacity}
 use Rattle.nucleus.specs.WellMade.{too-short}
 use Rattle.nucleus.specs.Rows.{rows-usable}
 use Rattle.nucleus.specs.Step.{refusal, admitted, step}
+use Rattle.nucleus.specs.Committed.{committed-place}
 use Rattle.nucleus.specs.declared.Call.{Call}
 use Rattle.nucleus.specs.declared.Response.the-variants.{BufferTooShort, StateInvalid}
 use Rattle.database.specs.Database.{Database, fitting, fitting-in, words, in-words}
@@ -100,4 +103,34 @@ module _ (capacity : ℕ) (call : Call) (format buffer : List ℕ) (b : Database
       go (fails t) (holds s) =
           let h : 0 < capacity = omega (arith, ltb-true size capacity s) in
           rw (t, s) (none-fit (queue-short (b .state .definition) capacity (b .store) [] (b .images) h))
+      go (fails t) (fails s) = rw (t, s)
+
+-- ---- the place of a record
+module _ (n : Nucleus) (file isn : ℕ) where
+  no-record : (capacity : ℕ) → too-short (n .state .definition) capacity (n .store) (n .queue) (n .images) ≡ true → committed-place n file isn capacity ≡ no-place
+  unfolding committed-place rows-usable
+  no-record capacity short = go (outcome (valid (n .state .definition)))
+    where
+      go : Outcome (valid (n .state .definition)) → committed-place n file isn capacity ≡ no-place
+      go (holds v) = rw (v, short)
+      go (fails v) = rw v
+
+module _ (capacity file isn : ℕ) (b : Database) where
+  abbrev same-place : ℕ → Type 0
+  same-place k = committed-place (nucleus (b .state) (b .store) (words k (b .queue)) (b .images)) file isn capacity ≡ committed-place (nucleus (b .state) (b .store) (words k (b .queue)) (b .images)) file isn k
+
+  none-placed : too-short (b .state .definition) capacity (b .store) [] (b .images) ≡ true → same-place 0
+  none-placed short =
+      let n = nucleus (b .state) (b .store) [] (b .images) in
+      no-record n file isn capacity short ∙ sym (no-record n file isn 0 (no-capacity (b .state .definition) (b .store) [] (b .images)))
+
+  pub place-fits : committed-place (in-words capacity b) file isn capacity ≡ committed-place (in-words capacity b) file isn (fitting-in capacity (b .queue))
+  unfolding fitting
+  place-fits = go (outcome (ltb max-capacity capacity)) (outcome (ltb (length (b .queue)) capacity))
+    where
+      go : Outcome (ltb max-capacity capacity) → Outcome (ltb (length (b .queue)) capacity) → same-place (fitting-in capacity (b .queue))
+      go (holds t) s = rw t (none-placed (over-most (b .state .definition) capacity (b .store) [] (b .images) (ltb-true max-capacity capacity t)))
+      go (fails t) (holds s) =
+          let h : 0 < capacity = omega (arith, ltb-true (length (b .queue)) capacity s) in
+          rw (t, s) (none-placed (queue-short (b .state .definition) capacity (b .store) [] (b .images) h))
       go (fails t) (fails s) = rw (t, s)

@@ -26,6 +26,12 @@ with-others n k call format buffer s store ws images r fit called =
     let rest : drop k ws ≡ drop n ws = ap (λ (m : ℕ). drop m ws) fit ∙ drop-least n ws in
     ap (with-rest (drop k ws)) called ∙ (λ i. with-rest (rest i) (step n call format buffer (nucleus s store (front i) images)))
 
+-- k entries as words in front of others
+pub front-words : (capacity k : ℕ) (queue : List Entry) (blank ws : List ℕ) → k ≡ fitting-in capacity queue → ws ≡ packed-front k queue blank → take k ws ≡ words k queue
+front-words capacity k queue blank ws fit out =
+    let size : k ≤ length queue = subst (λ (m : ℕ). m ≤ length queue) (sym fit) (fitting-size capacity (length queue)) in
+    ap (take k) out ∙ take-at (words k queue) (drop k blank) k (length-map (take k queue) pack-of ∙ length-take-le k queue size)
+
 module _ (capacity : ℕ) (call : Call) (format buffer : List ℕ) (s : State) (store : List ℕ) (queue : List Entry) (images : List ℕ) where
   -- the reply of a result, with a queue of entries in place of its words
   abbrev as-reply : List Entry → Result → Reply
@@ -47,11 +53,6 @@ module _ (capacity : ℕ) (call : Call) (format buffer : List ℕ) (s : State) (
     abbrev on-front : Result
     on-front = step k call format buffer (nucleus s store (take k ws) images)
 
-    front : take k ws ≡ words k queue
-    front =
-        let size : k ≤ length queue = subst (λ (m : ℕ). m ≤ length queue) (sym fit) (fitting-size capacity (length queue)) in
-        ap (take k) out ∙ take-at (words k queue) (drop k blank) k (length-map (take k queue) pack-of ∙ length-take-le k queue size)
-
     pub directly : (answer : Answer) (s₂ : State) (store₂ : List ℕ) (queue₂ : List Entry) (images₂ buffer₂ : List ℕ)
         → result answer (nucleus s₂ store₂ left images₂) buffer₂ ≡ on-words k call format buffer (nucleus s store ws images) → queue₂ ≡ unpacked-front k left queue
         → reply answer (database s₂ store₂ queue₂ images₂) buffer₂ ≡ direct-call capacity call format buffer (database s store queue images)
@@ -61,4 +62,4 @@ module _ (capacity : ℕ) (call : Call) (format buffer : List ℕ) (s : State) (
         let size : length (on-front .nucleus .queue) ≡ k = omega (arith, lengths, long, room) in
         let taken : take k left ≡ on-front .nucleus .queue = ap (take k) left-is ∙ take-at (on-front .nucleus .queue) (drop k ws) k size in
         ap (as-reply queue₂) called ∙ ap (λ (q : List Entry). as-reply q on-front) (back ∙ ap (λ (l : List ℕ). map unpack-of l ++ drop k queue) taken)
-        ∙ ap (λ (l : List ℕ). replied k (step k call format buffer (nucleus s store l images))) front ∙ ap (λ (m : ℕ). replied m (on-entries m)) fit ∙ fits-reply
+        ∙ ap (λ (l : List ℕ). replied k (step k call format buffer (nucleus s store l images))) (front-words capacity k queue blank ws fit out) ∙ ap (λ (m : ℕ). replied m (on-entries m)) fit ∙ fits-reply

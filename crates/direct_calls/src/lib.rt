@@ -3,11 +3,13 @@
 ghost use mathlib.Core.Path.{_≡_};
 ghost use Prim.Native.Nat.{_≤_};
 ghost use lib.ListN.{length};
-ghost use Rattle.database.specs.Database.{database, fitting, reply, direct-call};
+ghost use Rattle.database.specs.Database.{database, fitting, reply, direct-call, direct-place};
 ghost use Rattle.nucleus.specs.Nucleus.{nucleus, result};
 ghost use Rattle.direct_calls.specs.DirectCalls.{packed-front, unpacked-front, on-words};
 ghost use Rattle.direct_calls.specs.Kept.{kept-result, on-kept-words, kept-reply, kept-call};
+ghost use Rattle.direct_calls.specs.Places.{place-on-words, kept-place-on-words, kept-place};
 use calls::Outcome;
+use committed::Place;
 use entries::Entry;
 use kept_states::ControlBlock;
 use kept_states::KeptState;
@@ -144,4 +146,72 @@ pub fn kept_call(
     let r = on_kept_words(state, n, block, store, &mut words, images, format, buffer);
     words_in(queue, &words, n);
     r
+}
+
+// Where the record of a file and an ISN lies as ended transactions left it (document 02, No. 8), on the first n words.
+fn place_on_words(
+    state: State,
+    n: usize,
+    file: u8,
+    isn: u16,
+    store: &[u8],
+    words: &[u64],
+    images: &[u8],
+) -> Place
+    ensures { λ r. ⌜ r ≡ place-on-words n state file isn (now (store .entry)) (now (words .entry)) (now (images .entry)) ⌝ }
+{
+    let end = slices::least(n, words.len());
+    committed_places::committed_place(state, n, file, isn, store, &words[..end], images)
+}
+
+// The same for a state as a caller keeps it.
+fn kept_place_on_words(
+    state: KeptState,
+    n: usize,
+    file: u8,
+    isn: u16,
+    store: &[u8],
+    words: &[u64],
+    images: &[u8],
+) -> Place
+    ensures { λ r. ⌜ r ≡ kept-place-on-words n state file isn (now (store .entry)) (now (words .entry)) (now (images .entry)) ⌝ }
+{
+    let thawed = kept_states::thawed(state);
+    place_on_words(thawed, n, file, isn, store, words, images)
+}
+
+// Where the record lies, for any state, capacity and lent slices. It is no call, and changes nothing.
+pub fn direct_place(
+    state: State,
+    capacity: usize,
+    file: u8,
+    isn: u16,
+    store: &[u8],
+    queue: &[Entry],
+    images: &[u8],
+) -> Place
+    ensures { λ r. ⌜ r ≡ direct-place capacity (database state (now (store .entry)) (now (queue .entry)) (now (images .entry))) file isn ⌝ }
+{
+    let n = fitting(capacity, queue.len());
+    let mut words = [0u64; MAX_CAPACITY];
+    words_out(queue, &mut words, n);
+    place_on_words(state, n, file, isn, store, &words, images)
+}
+
+// The same for a state as a caller keeps it.
+pub fn kept_place(
+    state: KeptState,
+    capacity: usize,
+    file: u8,
+    isn: u16,
+    store: &[u8],
+    queue: &[Entry],
+    images: &[u8],
+) -> Place
+    ensures { λ r. ⌜ r ≡ kept-place capacity state file isn (now (store .entry)) (now (queue .entry)) (now (images .entry)) ⌝ }
+{
+    let n = fitting(capacity, queue.len());
+    let mut words = [0u64; MAX_CAPACITY];
+    words_out(queue, &mut words, n);
+    kept_place_on_words(state, n, file, isn, store, &words, images)
 }

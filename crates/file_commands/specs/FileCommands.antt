@@ -34,7 +34,7 @@ module _ (call : Call) (most width clock : ℕ) (x : Share) (f : File) (part que
   unfoldable pub on-file : Command → Left
   on-file Hi = left (hi-done call x queue most clock) part (hi-queue call x queue most f part) images buffer
   on-file Ri = left (ri-done call x queue images width) part (ri-queue call x queue images width) (ri-images call x queue images width) buffer
-  on-file L1 = left (l1-done call x f part format buffer) part queue images (l1-buffer call x f part format buffer)
+  on-file L1 = left (l1-done call x f part format buffer queue images width) part queue images (l1-buffer call x f part format buffer queue images width)
   on-file L4 =
       left (l4-done call x f part format buffer queue most clock) part (l4-queue call x f part format buffer queue most) images
       (l4-buffer call x f part format buffer queue most)

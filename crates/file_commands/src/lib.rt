@@ -29,7 +29,7 @@ pub fn on_file(
     match command {
         Command::Hi => holding::hi(call, most, clock, share, f, part, queue),
         Command::Ri => releasing::ri(call, share, queue, images, width),
-        Command::L1 => retrieval::l1(call, share, f, part, format, buffer),
+        Command::L1 => { retrieval::l1(call, share, width, f, part, queue, images, format, buffer) }
         Command::L4 => { retrieval::l4(call, most, clock, share, f, part, queue, format, buffer) }
         Command::A1 => updating::a1(
             call,

@@ -8,6 +8,7 @@ pub mod Ground
 pub mod Restore
 pub mod Entries
 pub mod FirstChange
+pub mod Committed
 pub mod Unique
 pub mod Taken
 pub mod Kept

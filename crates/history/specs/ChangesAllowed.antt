@@ -94,7 +94,7 @@ module _ (r : Request) (n : Nucleus) (s : DefinitionShape (definition-of n)) (v 
     where
       go : (b : Changes r) → suits d (r .call .file) (update-of r b) (get d (n .store) k) ≡ true
       go (replaces e) =
-          rw (target-slot r n s (made .store-room) t, old-there r n s (made .store-room) t a (rw e), file-is r n (t .at) isn (t .found), old-width r n s (made .store-room) t)
+          rw (target-slot r n s (made .store-room) t, old-there r n s (made .store-room) t a (rw e) (rw e), file-is r n (t .at) isn (t .found), old-width r n s (made .store-room) t)
           (eqb-self (record-length (file r n)))
       go (erases e) = refl
       go (adds e) = refl

@@ -26,7 +26,8 @@ use Rattle.store.specs.Files.{file-part-length}
 use Rattle.ground.specs.Keys.{key}
 use Rattle.ground.specs.Store.{get}
 use Rattle.transactions.specs.Slots.{Slot}
-use Rattle.nucleus.specs.Commands.{one-of, on-record}
+use Rattle.committed.specs.Committed.{version-there}
+use Rattle.nucleus.specs.Commands.{one-of, on-record, reading-committed}
 use Rattle.nucleus.specs.Nucleus.{Nucleus, Request}
 use Rattle.nucleus.specs.Target.{file, part, record-at, target-isn, new-record}
 use Rattle.nucleus.specs.Rows.{presence-refused}
@@ -92,14 +93,14 @@ module _ (r : Request) (n : Nucleus) (s : DefinitionShape (definition-of n)) (ro
       go false = null-record-length (file r n) old ∙ old-width
 
   module _ (a : Accepted r n) where
-    -- 113: A1 and E1 find a record
-    pub old-there : one-of on-record (r .command) ≡ true → record-at r n isn ≡ true
-    unfolding presence-refused
-    old-there y = not-false _ (rest-fails _ _ y (or-left _ (one-of (N2 ∷ []) (r .command) && record-at r n isn) (a .presence)))
+    -- 113: A1 and E1 find a record, and what they find is the store's
+    pub old-there : one-of on-record (r .command) ≡ true → one-of reading-committed (r .command) ≡ false → record-at r n isn ≡ true
+    unfolding presence-refused version-there
+    old-there y stored = not-false _ (rest-fails _ _ y (or-left _ (one-of (N2 ∷ []) (r .command) && record-at r n isn) (rw stored at (a .presence))))
 
     pub applied : (c : Changes r) → apply (file r n) (update-of r c) (get d (n .store) k) ≡ slot-of r n c
     unfolding apply
-    applied (replaces e) = rw (target-slot, old-there (rw e), new-replaces e)
+    applied (replaces e) = rw (target-slot, old-there (rw e) (rw e), new-replaces e)
     applied (erases e) = refl
     applied (adds e) = rw (new-adds (rw e))
     applied (adds-there e) = rw (new-adds (rw e))

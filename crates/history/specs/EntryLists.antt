@@ -14,7 +14,7 @@ use Rattle.entries.specs.Entries.{pack-of, unpack-of, entries}
 use Rattle.entries.specs.declared.Entry.{Entry}
 use Rattle.ground.specs.Queue.{queue-of, holds-of}
 use Rattle.nucleus.specs.Responses.{number}
-use Rattle.nucleus.specs.Nucleus.{Nucleus, nucleus, Result, max-users, max-capacity}
+use Rattle.nucleus.specs.Nucleus.{Nucleus, nucleus, Result, max-users, max-capacity, entries-of}
 use Rattle.nucleus.specs.Step.{step, set-up}
 use Rattle.nucleus.specs.declared.Call.{Call}
 use Rattle.nucleus.specs.declared.Response.the-variants.{Good}
@@ -128,6 +128,12 @@ module _ (capacity : ℕ) (lent : Lent ℕ) (b : Database) (j : Journal) (p : Pa
         subst (λ q. Passed capacity lent (requeued (x .nucleus) q) told) (sym (words-again capacity (b .queue) left length-left))
         (passed-requeued capacity lent (x .nucleus) told (went .passed) (renewed left) (lent .queue) (entries-renewed left (x .nucleus .state .count))
         (omega (arith, length-renewed left, length-left, all-fit)) renewed-alike)
+
+    -- the entries in use are those that the call left
+    pub entries-called : entries-of (in-words capacity (direct-call capacity call format buffer b .database)) ≡ entries-of (x .nucleus)
+    unfolding direct-call
+    entries-called =
+        ap (λ q. entries q (x .nucleus .state .count)) (words-again capacity (b .queue) left length-left) ∙ entries-renewed left (x .nucleus .state .count)
 
     pub usable-called : unusable (number (x .answer .response)) ≡ false
     usable-called = went .usable

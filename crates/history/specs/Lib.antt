@@ -29,4 +29,6 @@ pub mod Resting
 pub mod Records
 pub mod BackingOut
 pub mod Waiting
+pub mod Committed
+pub mod CommittedReads
 pub mod Theorem

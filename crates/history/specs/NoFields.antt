@@ -20,17 +20,18 @@ use Rattle.elements.specs.Elements.{period-alone, format-valid, places}
 use Rattle.elements.specs.Laws.{alone-places, alone-once, alone-needed}
 use Rattle.fields.specs.Laws.{read-none, write-none, allowed-none}
 use Rattle.nulls.specs.Nulls.{null-record}
-use Rattle.store.specs.Store.{record-of, shown, field-value, put-record}
+use Rattle.store.specs.Store.{record-of, field-value, put-record}
 use Rattle.store.specs.Files.{part-own}
 use Rattle.store.specs.Laws.{put-own}
 use Rattle.records.specs.declared.Found.{Found}
 use Rattle.records.specs.declared.Found.the-variants.{At, Nowhere}
 use Rattle.queue.specs.declared.Lookup.{Lookup}
 use Rattle.queue.specs.declared.Lookup.the-variants.{Held, Free}
-use Rattle.nucleus.specs.Commands.{direct-commands, one-of, on-record, naming, bringing-values}
+use Rattle.committed.specs.Committed.{version-there, version-bytes}
+use Rattle.nucleus.specs.Commands.{direct-commands, one-of, on-record, reading-committed, naming, bringing-values}
 use Rattle.nucleus.specs.Responses.{good}
-use Rattle.nucleus.specs.Nucleus.{Nucleus, Request, request, max-et-data, data-at, with-store}
-use Rattle.nucleus.specs.Target.{part-in, store-with, command-in, file-place, file, part, record-at, holder-of, target-isn, new-record}
+use Rattle.nucleus.specs.Nucleus.{Nucleus, Request, request, max-et-data, data-at, width-of, with-store}
+use Rattle.nucleus.specs.Target.{part-in, store-with, command-in, file-place, file, part, record-at, holder-of, target-isn, version-read, new-record}
 use Rattle.nucleus.specs.Rows.{first-cause, rows-last, format-refused, field-twice, record-length-refused, value-refused, presence-refused, judged, is-taken, value-taken}
 use Rattle.nucleus.specs.Effects.{held, imaged-at, imaged, with-part-of, written, leaving, read-at, effect, effect-at}
 use Rattle.nucleus.specs.Step.{admitted, let-in, refusal, unless, perform, step}
@@ -83,10 +84,11 @@ module _ (r : Request) (n : Nucleus) (alone : period-alone (r .format) ≡ true)
   unfolding value-refused
   alone-allowed = rw (allowed-none (file r n) (r .format) none-named (r .buffer)) (and-false (one-of bringing-values (r .command)))
 
-  -- ---- L1 and L4: the ISN, quantity 0, and the record buffer as it was; an L4 leaves what an HI leaves
+  -- ---- L1 and L4: the ISN, quantity 0, and the record buffer as it was, whichever version of a record an L1 shows; an L4 leaves what an HI leaves
   reads-nothing : (m : Nucleus) → read-at r isn n m ≡ leaving r (good isn 0 0) m
   reads-nothing m =
-      rw (alone-needed (file r n) (r .format) alone, read-none (file r n) (r .format) none-named (shown (file r n) (part r n) isn) (r .buffer))
+      let bytes = version-bytes (file r n) (part r n) (n .images) (width-of n) (version-read r n isn) isn in
+      rw (alone-needed (file r n) (r .format) alone, read-none (file r n) (r .format) none-named bytes (r .buffer))
 
   pub l1-alone : r .command ≡ L1 → effect r n ≡ leaving r (good isn 0 0) n
   unfolding effect-at
@@ -118,10 +120,11 @@ module _ (r : Request) (n : Nucleus) (alone : period-alone (r .format) ≡ true)
         ap (λ p. with-part-of r p m) own ∙ ap (λ s. with-store s m) store
 
     there-if-passed : is-cause (first-cause (rows-last r n)) ≡ false → record-at r n isn ≡ true
-    unfolding presence-refused
+    unfolding presence-refused version-there
     there-if-passed passed =
         let about : one-of on-record (r .command) ≡ true = rw c in
-        let no = or-left (one-of on-record (r .command) && not (record-at r n isn)) (one-of (N2 ∷ []) (r .command) && record-at r n isn) (accepted r n passed .presence) in
+        let stored : one-of reading-committed (r .command) ≡ false = rw c in
+        let no = or-left (one-of on-record (r .command) && not (record-at r n isn)) (one-of (N2 ∷ []) (r .command) && record-at r n isn) (rw stored at (accepted r n passed .presence)) in
         not-false (record-at r n isn) (rest-fails (one-of on-record (r .command)) (not (record-at r n isn)) about no)
 
     -- it judges no unique field: "A1 the named ones"

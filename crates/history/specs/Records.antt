@@ -62,7 +62,7 @@ module _ (capacity : ℕ) (lent : Lent ℕ) (n : Nucleus) (j : Journal) (k : Kep
 
   -- ---- of an ISN of two bytes
   module _ (file isn : ℕ) (small : isn < isn-bound) where
-    slot-in : get d (n .store) (key file isn) ≡ record-in d (n .store) file isn
+    pub slot-in : get d (n .store) (key file isn) ≡ record-in d (n .store) file isn
     slot-in =
         get-is d (n .store) (k .sized .made .store-room) (key file isn)
         ∙ rw (file-of-key file isn small, isn-of-key file isn small) (go (place d file))

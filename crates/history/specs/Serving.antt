@@ -41,13 +41,13 @@ use Rattle.history.specs.Changing.{held-here, passed-changed}
 abbrev pub plain : Response → Bool
 plain c = not (eqb (number c) 0) && not (eqb (number c) 9) && not (is-early (number c))
 
--- the causes of the last rows are so
-pub first-plain : (rs : List Row) → all (λ (r : Row). plain (r .cause)) rs ≡ true → (c : Response) → first-cause rs ≡ some c → plain c ≡ true
-first-plain [] h c e = not-both false (ap is-cause e) refl
-first-plain (r ∷ rs) h c e = go (outcome (r .holds)) (first-plain rs (and-right (plain (r .cause)) (all (λ (x : Row). plain (x .cause)) rs) h) c)
+-- where the causes of all rows are so, the first is
+pub first-such : (q : Response → Bool) (rs : List Row) → all (λ (r : Row). q (r .cause)) rs ≡ true → (c : Response) → first-cause rs ≡ some c → q c ≡ true
+first-such q [] h c e = not-both false (ap is-cause e) refl
+first-such q (r ∷ rs) h c e = go (outcome (r .holds)) (first-such q rs (and-right (q (r .cause)) (all (λ (x : Row). q (x .cause)) rs) h) c)
   where
-    go : Outcome (r .holds) → (first-cause rs ≡ some c → plain c ≡ true) → plain c ≡ true
-    go (holds t) later = let same : r .cause ≡ c = cc (rw t at e) in rw (← same) (and-left (plain (r .cause)) (all (λ (x : Row). plain (x .cause)) rs) h)
+    go : Outcome (r .holds) → (first-cause rs ≡ some c → q c ≡ true) → q c ≡ true
+    go (holds t) later = let same : r .cause ≡ c = cc (rw t at e) in rw (← same) (and-left (q (r .cause)) (all (λ (x : Row). q (x .cause)) rs) h)
     go (fails t) later = later (rw t at e)
 
 -- a row that fails although its second part holds

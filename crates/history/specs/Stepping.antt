@@ -35,7 +35,7 @@ use Rattle.history.specs.Keeping.{kept-like}
 use Rattle.history.specs.Passing.{Passed, user-known, passed-clock}
 use Rattle.history.specs.Standing.{well-made-kept, long-kept}
 use Rattle.history.specs.Performing.{quiet-user, rested-set, idle-quiet, passed-backed-out}
-use Rattle.history.specs.Serving.{plain, first-plain, Caller, Served, served-effect}
+use Rattle.history.specs.Serving.{plain, first-such, Caller, Served, served-effect}
 
 -- a call that is turned away or let in
 abbrev served-by : Request → Admission → Result
@@ -57,7 +57,7 @@ module _ (lent : Lent ℕ) (n : Nucleus) (j : Journal) (r : Request) (p : Passed
     where
       go : (x : Option Response) → first-cause (rows-last r n) ≡ x → Served lent r j (r .command) (unless x (refusal (r .buffer) n) (effect r n))
       go none e = served-effect lent n j r p y (accepted r n (ap is-cause e)) (r .command) refl
-      go (some c) e = refused-plain c (first-plain (rows-last r n) refl c e)
+      go (some c) e = refused-plain c (first-such plain (rows-last r n) refl c e)
 
   abbrev Session : Type 0
   Session = Served lent r j (r .command) (served-by r (admitted-session (r .command) (r .call) n))

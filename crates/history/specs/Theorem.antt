@@ -13,7 +13,8 @@ use lib.Seq.{getD-set-same}
 use borrow.Author.Tests.{not-true}
 use Rattle.lists.specs.Tests.{eqb-self, within, within-least, within-most, and-left, and-right}
 use Rattle.lists.specs.Folds.{any}
-use Rattle.lists.specs.Sift.{sift-map}
+use Rattle.lists.specs.Numbers.{numbers, in-numbers}
+use Rattle.lists.specs.Sift.{sift, sift-map, any-sift, all-sift, distinct-sift, elem-both}
 use Rattle.definition.specs.declared.Definition.{Definition}
 use Rattle.nucleus.specs.Commands.{code, command-of, has-option}
 use Rattle.nucleus.specs.Users.{is-active, is-ready}
@@ -25,12 +26,12 @@ use Rattle.database.specs.Database.{in-words, direct-call, set-up-database}
 use Rattle.nucleus.specs.declared.Call.{Call}
 use Rattle.nucleus.specs.declared.Command.the-variants.{Et, Bt, Pe}
 use Rattle.nucleus.specs.declared.Response.the-variants.{Good}
-use Rattle.claim.specs.Journal.{Change, Member, new-member, member, commits, add, apply, is-early, log-clock, log-start, log-change, log-end, log-ready, fed, replayed, record-told}
+use Rattle.claim.specs.Journal.{Journal, Change, Member, new-member, member, in-transaction, commits, add, apply, is-early, log-clock, log-start, log-change, log-end, log-ready, fed, replayed, record-told}
 use Rattle.claim.specs.Run.{World, BackOut, call-given, called, run, begin, bt, back-outs, struck-all}
 use Rattle.claim.specs.Answers.{Answered, answers}
 use Rattle.claim.specs.Lent.{Lent, Alike}
-use Rattle.claim.specs.Claim.{SameRecords, UniqueValues, Chosen, Requirement3}
-use Rattle.claim.specs.Statements.{unusable, NeverUnusable, StaysUsable, SameTransactions, BackOutsAccepted, BackOutsAreCalls, BackOutsAreFed, JournalOfAnswers, record-added, AddedTold, NeverTouched, response-to, of-others, IsEt, IsBt, changes-of, ReadyEnds}
+use Rattle.claim.specs.Claim.{SameRecords, UniqueValues, users-of, Chosen, Requirement3}
+use Rattle.claim.specs.Statements.{unusable, NeverUnusable, StaysUsable, SameTransactions, BackOutsAccepted, BackOutsAreCalls, BackOutsAreFed, JournalOfAnswers, record-added, AddedTold, NeverTouched, response-to, of-others, IsEt, IsBt, changes-of, ReadyEnds, EveryoneListed, bytes-of, CommittedPart, CommittedRead}
 use Rattle.history.specs.Kept.{Kept, member-of}
 use Rattle.history.specs.People.{transaction-is, member-is}
 use Rattle.history.specs.Passing.{Passed, passed-clock}
@@ -40,6 +41,8 @@ use Rattle.history.specs.EntryLists.{passed-called, usable-called, insid
 use Rattle.history.specs.Records.{same-records, unique-values}
 use Rattle.history.specs.Resting.{performed-good, bt-performed, et-performed}
 use Rattle.history.specs.Waiting.{Awaited, awaited-still, awaited-then, awaited-clock, awaited-fed}
+use Rattle.history.specs.Committed.{committed-left, part-bytes}
+use Rattle.history.specs.CommittedReads.{committed-reads}
 use Rattle.history.specs.BackingOut.{passed-back-outs, queue-back-outs, accepted-back-outs, fed-back-outs}
 
 -- ---- a list of calls
@@ -268,3 +271,48 @@ ready-ends capacity table store queue images calls others pe good command accept
           ∙ ap (map (commits u)) (waited .same-changes);
       bt-good = λ g same e. bt-accepted capacity lent now still g (rw same ready-now) (rw same inside) e;
     }
+
+-- ---- document 02, No. 8
+-- a BT of each user whom the journal has in a transaction, in the order of their numbers
+module _ (j : Journal) where
+  abbrev in-one : List ℕ
+  in-one = sift (in-transaction j) (numbers max-users 1)
+
+  abbrev each-out : List BackOut
+  each-out = map (λ u. record { user = u; file = 0; isn = 0; limit = 0; format = []; buffer = [] }) in-one
+
+  same-users : (us : List ℕ) → users-of (map (λ u. record { user = u; file = 0; isn = 0; limit = 0; format = []; buffer = [] }) us) ≡ us
+  same-users [] = refl
+  same-users (u ∷ us) = ap (λ l. u ∷ l) (same-users us)
+
+  listed : (u : ℕ) → in-transaction j u ≡ true → any (eqb u) in-one ≡ true
+  listed u active =
+      let inside = and-left (within 1 max-users u) _ active in
+      any-sift (in-transaction j) (eqb u) (numbers max-users 1)
+      ∙ elem-both (in-transaction j) u (numbers max-users 1)
+      (in-numbers max-users 1 u (within-least 1 max-users u inside) (omega (arith, within-most 1 max-users u inside))) active
+
+pub everyone-listed : EveryoneListed
+everyone-listed j = (
+  each-out j,
+  record {
+    chosen = record {
+      different = rw (same-users j (in-one j)) (distinct-sift eqb (in-transaction j) (numbers max-users 1) refl);
+      active = rw (same-users j (in-one j)) (all-sift (in-transaction j) (numbers max-users 1));
+    };
+    none-left = λ u active. rw (same-users j (in-one j)) (listed j u active);
+  },
+)
+
+pub committed-part : CommittedPart
+committed-part capacity table store queue images calls bs file isn good everyone =
+    let lent = lent-words capacity table store queue images good in
+    let w = run capacity calls (begin capacity store queue images table) in
+    let p = passed-end capacity table store queue images calls good in
+    part-bytes capacity lent (w .database) (w .journal) p file isn
+    ∙ ap bytes-of (committed-left capacity lent (w .database) (w .journal) p file isn bs everyone)
+
+pub committed-read : CommittedRead
+committed-read capacity table store queue images calls g bs good committed everyone =
+    committed-reads capacity (lent-words capacity table store queue images good) (run capacity calls (begin capacity store queue images table))
+    (passed-end capacity table store queue images calls good) g committed bs everyone

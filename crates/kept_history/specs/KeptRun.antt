@@ -13,10 +13,13 @@ use Rattle.kept_states.specs.declared.KeptState.{KeptState}
 use Rattle.kept_states.specs.declared.ControlBlock.{ControlBlock}
 use Rattle.kept_setup.specs.KeptSetup.{kept-set-up}
 use Rattle.direct_calls.specs.Kept.{KeptReply, kept-call}
-use Rattle.claim.specs.Run.{BackOut, bt, struck-all}
+use Rattle.direct_calls.specs.Places.{kept-place}
+use Rattle.committed.specs.Committed.{bytes-at}
+use Rattle.claim.specs.Run.{BackOut, bt, struck-all, record-in}
 use Rattle.claim.specs.Answers.{Answered, fed-all}
 use Rattle.claim.specs.Journal.{Journal, new-journal}
 use Rattle.claim.specs.Claim.{SameRecords, UniqueValues, Chosen}
+use Rattle.claim.specs.Statements.{Everyone, bytes-of}
 
 -- the state as it is kept, and what is lent
 pub record KeptDatabase : Type 0 where
@@ -54,6 +57,10 @@ kept-answers capacity (g ∷ gs) k =
     record { given = given-in g; response = replied capacity g k .left .block .response; isn = replied capacity g k .left .block .«answered_isn» }
     ∷ kept-answers capacity gs (kept-after (replied capacity g k))
 
+-- the bytes of the place that such a program is given
+abbrev pub kept-part : ℕ → KeptDatabase → ℕ → ℕ → List ℕ
+kept-part capacity k file isn = bytes-at (kept-place capacity (k .state) file isn (k .store) (k .queue) (k .images)) (k .store) (k .images)
+
 -- what set-up leaves: the state and the store; queue and images stay as they are
 abbrev pub kept-begin : ℕ → List ℕ → List ℕ → List Entry → List ℕ → KeptDatabase
 kept-begin capacity table store queue images = record {
@@ -80,3 +87,13 @@ Requirement3Kept =
     → Chosen bs (kept-journal capacity calls (kept-begin capacity table store queue images))
     → KeptNeverWas (read-table table .definition) (kept-run capacity outs (kept-run capacity calls (kept-begin capacity table store queue images)) .store)
     (struck-all bs (kept-journal capacity calls (kept-begin capacity table store queue images)))
+
+-- ---- document 02, No. 8, for such a program: the part that it is given the place of is the record that the BTs of all users in a transaction would leave
+abbrev pub CommittedPartKept : Type 0
+CommittedPartKept =
+    (capacity : ℕ) (table store : List ℕ) (queue : List Entry) (images : List ℕ) (calls outs : List KeptGiven) (bs : List BackOut) (file isn : ℕ)
+    → kept-set-up capacity store queue images table .response ≡ 0
+    → map given-in outs ≡ map bt bs
+    → Everyone bs (kept-journal capacity calls (kept-begin capacity table store queue images))
+    → kept-part capacity (kept-run capacity calls (kept-begin capacity table store queue images)) file isn
+    ≡ bytes-of (record-in (read-table table .definition) (kept-run capacity outs (kept-run capacity calls (kept-begin capacity table store queue images)) .store) file isn)

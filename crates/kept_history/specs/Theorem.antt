@@ -10,19 +10,21 @@ use Rattle.reading.specs.Grammar.{read-table}
 use Rattle.nucleus.specs.Responses.{number}
 use Rattle.nucleus.specs.declared.Response.{Response}
 use Rattle.nucleus.specs.declared.Response.the-variants.{Good, DefinitionInvalid, BufferTooShort, StateInvalid, CommandUnknown, UserUnknown, BackedOut, TransactionReady, AccessOnly, NoTransaction, FileUnknown, IsnInvalid, FormatInvalid, FieldTwice, RecordLength, ValueInvalid, NotFound, HeldByAnother, Presence, NotHeld, AlreadyChanged, FileFull, HoldLimit, QueueFull, ValueTaken}
-use Rattle.database.specs.Database.{Database, database, Reply, direct-call, set-up-database}
+use Rattle.database.specs.Database.{Database, database, Reply, direct-call, direct-part, set-up-database}
 use Rattle.kept_states.specs.KeptStates.{thawed, answered, left-by}
 use Rattle.kept_setup.specs.KeptSetup.{kept-set-up}
 use Rattle.kept_setup.specs.Laws.{made-thawed}
 use Rattle.direct_calls.specs.Kept.{kept-call}
+use Rattle.direct_calls.specs.Places.{kept-place}
 use Rattle.direct_calls.specs.Promises.{left-thawed}
 use Rattle.claim.specs.Journal.{Journal, new-journal}
-use Rattle.claim.specs.Run.{World, BackOut, called, run, begin, bt, back-outs, struck-all}
+use Rattle.claim.specs.Run.{World, BackOut, called, run, begin, bt, back-outs, struck-all, record-in}
 use Rattle.claim.specs.Answers.{Answered, answers, fed-all}
 use Rattle.claim.specs.Claim.{SameRecords, UniqueValues, Chosen}
+use Rattle.claim.specs.Statements.{Everyone, bytes-of}
 use Rattle.history.specs.SetUpKept.{set-up-touches}
-use Rattle.history.specs.Theorem.{backed-out-never-was, back-outs-are-calls, journal-of-answers}
-use Rattle.kept_history.specs.KeptRun.{KeptDatabase, thawed-database, KeptGiven, given-in, replied, kept-after, kept-run, kept-answers, kept-begin, kept-journal, Requirement3Kept}
+use Rattle.history.specs.Theorem.{backed-out-never-was, back-outs-are-calls, journal-of-answers, committed-part}
+use Rattle.kept_history.specs.KeptRun.{KeptDatabase, thawed-database, KeptGiven, given-in, replied, kept-after, kept-run, kept-answers, kept-begin, kept-journal, Requirement3Kept, CommittedPartKept}
 
 -- ---- one call
 module _ (capacity : ℕ) (g : KeptGiven) (k : KeptDatabase) where
@@ -139,3 +141,13 @@ kept-never-was capacity table store queue images calls outs bs good same chosen 
       same-records = subst (λ (x : Journal). SameRecords d left (struck-all bs x)) (sym j) (subst (λ (x : List ℕ). SameRecords d x told) (sym s) (never .same-records));
       unique-values = subst (UniqueValues d) (sym s) (never .unique-values);
     }
+
+-- ---- the record as a part
+pub kept-committed-part : CommittedPartKept
+unfolding kept-set-up kept-place
+kept-committed-part capacity table store queue images calls outs bs file isn good same everyone =
+    let d = read-table table .definition in
+    let j = journal-is capacity table store queue images calls in
+    let part = committed-part capacity table store queue images (map given-in calls) bs file isn (number-good _ good) (subst (Everyone bs) j everyone) in
+    ap (λ (b : Database). direct-part capacity b file isn) (called-is capacity table store queue images calls) ∙ part
+    ∙ ap (λ (x : List ℕ). bytes-of (record-in d x file isn)) (sym (backed-out-is capacity table store queue images calls outs bs same))

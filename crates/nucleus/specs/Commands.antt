@@ -106,6 +106,10 @@ bringing-values = A1 ∷ N1 ∷ N2 ∷ []
 abbrev pub reading-values : List Command
 reading-values = L1 ∷ L4 ∷ []
 
+-- of these, the one that may read a record as ended transactions left it
+abbrev pub reading-committed : List Command
+reading-committed = L1 ∷ []
+
 -- that open or close a session
 abbrev pub on-session : List Command
 on-session = Op ∷ Cl ∷ []
@@ -135,10 +139,15 @@ option-H = 72
 abbrev pub option-A : ℕ
 option-A = 65
 
--- "blank X'20' for none"; `I` is named for L1 and L4, `H` for A1 and E1, `A` for OP
+-- document 02, No. 8: "L1 gets option `C`: it shows the record as ended transactions left it"
+abbrev pub option-C : ℕ
+option-C = 67
+
+-- "blank X'20' for none"; `I` is named for L1 and L4, `H` for A1 and E1, `A` for OP, and `C` for L1
 unfoldable pub has-option : Command → ℕ → Bool
 has-option c o =
     eqb o blank
     || (eqb o option-I && one-of reading-values c)
     || (eqb o option-H && one-of changing-held c)
     || (eqb o option-A && one-of (Op ∷ []) c)
+    || (eqb o option-C && one-of reading-committed c)

@@ -8,7 +8,8 @@ use lib.Seq.{sets}
 use Rattle.lists.specs.Tests.{cond}
 use Rattle.elements.specs.Elements.{length-needed}
 use Rattle.fields.specs.Fields.{read-fields}
-use Rattle.store.specs.Store.{record-of, shown, put-record, empty}
+use Rattle.store.specs.Store.{record-of, put-record, empty}
+use Rattle.committed.specs.Committed.{version-bytes}
 use Rattle.queue.specs.Queue.{append}
 use Rattle.changes.specs.Changes.{first-change-queue, first-change-images}
 use Rattle.records.specs.declared.Found.{Found}
@@ -22,7 +23,7 @@ use Rattle.nucleus.specs.Users.{max-sequence, set-session, closed, count
 use Rattle.nucleus.specs.Responses.{good}
 use Rattle.nucleus.specs.Nucleus.{Nucleus, Request, Result, result, data-at, with-data, with-last-assigned, with-count, with-state, with-store, width-of, user-of, change-user}
 use Rattle.nucleus.specs.Clock.{removed, backed-out}
-use Rattle.nucleus.specs.Target.{is-holder, store-with, file-place, file, part, record-at, holder-of, target-isn, new-record}
+use Rattle.nucleus.specs.Target.{is-holder, store-with, file-place, file, part, record-at, holder-of, target-isn, version-read, new-record}
 use Rattle.nucleus.specs.declared.Answer.{Answer}
 use Rattle.nucleus.specs.declared.Command.{Command}
 use Rattle.nucleus.specs.declared.Command.the-variants.{Hi, Ri, L1, L4, A1, E1, N1, N2, Et, Bt, Re, Op, Cl, Pe}
@@ -109,7 +110,7 @@ module _ (r : Request) where
   abbrev pub read-at : ℕ → Nucleus → Nucleus → Result
   read-at isn n m =
       result (good isn (length-needed (file r n) (r .format)) 0) m
-      (read-fields (file r n) (r .format) (shown (file r n) (part r n) isn) (r .buffer))
+      (read-fields (file r n) (r .format) (version-bytes (file r n) (part r n) (n .images) (width-of n) (version-read r n isn) isn) (r .buffer))
 
   -- "RI drops the user's unchanged entry; ISN 0 drops all of his unchanged ones, in every file, and skips the changed"
   abbrev pub released : Nucleus → Nucleus

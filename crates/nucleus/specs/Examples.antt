@@ -30,12 +30,14 @@ use Rattle.entries.specs.declared.Entry.{Entry}
 use Rattle.queue.specs.Queue.{holder, held-by, append}
 use Rattle.changes.specs.Changes.{change, keep-image, settled, first-change-queue, first-change-images}
 use Rattle.repeats.specs.Repeats.{repeated}
+use Rattle.committed.specs.Committed.{committed-version, version-there, version-bytes, version-place, bytes-at, no-place, in-store, in-images}
+use Rattle.committed.specs.declared.Place.{Place}
 use Rattle.removal.specs.Closing.{closed}
 use Rattle.images.specs.Images.{image-has}
 use Rattle.removal.specs.Removal.{remove-queue, remove-images, remove-count}
 use Rattle.hold.specs.Hold.{put-back-in, put-back, restore}
 use Rattle.nucleus.specs.Text.{text}
-use Rattle.nucleus.specs.Commands.{commands, direct-commands, place-of, code, command-of, has-option, blank, option-I, option-H, option-A}
+use Rattle.nucleus.specs.Commands.{commands, direct-commands, place-of, code, command-of, has-option, blank, option-I, option-H, option-A, option-C}
 use Rattle.nucleus.specs.Users.{opening, counted, with-transaction, with-overdue, set-session}
 use Rattle.nucleus.specs.Nucleus.{Nucleus, nucleus, Given, given, with-count, with-store, change-user}
 use Rattle.nucleus.specs.WellMade.{too-short, well-made}
@@ -44,6 +46,7 @@ use Rattle.nucleus.specs.Target.{target, new-record}
 use Rattle.nucleus.specs.Rows.{rows-usable, rows-understood, is-overdue, session-in-transaction, ready-refused, access-refused, transaction-missing, file-unknown, isn-invalid, format-refused, field-twice, record-length-refused, value-refused, none-found, held-elsewhere, presence-refused, not-held, release-refused, file-full, limit-reached, queue-full, value-taken}
 use Rattle.nucleus.specs.Effects.{held, imaged, written, erased, effect-at}
 use Rattle.nucleus.specs.Step.{admitted-session, admitted-user, admitted, perform, step, set-up}
+use Rattle.nucleus.specs.Committed.{committed-place}
 use Rattle.nucleus.specs.Line.{hexadecimal, decimal, line-of, line}
 use Rattle.nucleus.specs.declared.User.{User}
 
@@ -307,6 +310,77 @@ ready-once-calls =
     sent "HI" blank 1 1 0 [] [] ∷
     sent "ET" blank 1 0 901 [] [] ∷ []
 
+-- a record that user 1 changes: with option `C` and without it, by another user and by himself
+committed-changed-calls : List Given
+committed-changed-calls =
+    sent "N1" blank 1 0 0 (text "RC,HH.") (text "2AB") ∷
+    sent "ET" blank 1 0 0 [] [] ∷
+    sent "A1" option-H 1 1 0 (text "RC.") (text "3") ∷
+    sent "L1" option-C 2 1 0 (text "RC,HH.") (text "???") ∷
+    sent "L1" blank 2 1 0 (text "RC,HH.") (text "???") ∷
+    sent "L1" option-C 1 1 0 (text "RC,HH.") (text "???") ∷ []
+
+-- one that he changes twice; and after his ET or BT
+abbrev committed-then : String → List Given
+committed-then command =
+    sent "N1" blank 1 0 0 (text "RC,HH.") (text "2AB") ∷
+    sent "ET" blank 1 0 0 [] [] ∷
+    sent "A1" option-H 1 1 0 (text "RC.") (text "3") ∷
+    sent "A1" blank 1 1 0 (text "RC.") (text "4") ∷
+    sent command blank 1 0 0 [] [] ∷
+    sent "L1" option-C 2 1 0 (text "RC,HH.") (text "???") ∷ []
+
+-- a record that he empties, and adds anew
+committed-emptied-calls : List Given
+committed-emptied-calls =
+    sent "N1" blank 1 0 0 (text "RC,HH.") (text "2AB") ∷
+    sent "ET" blank 1 0 0 [] [] ∷
+    sent "E1" option-H 1 1 0 [] [] ∷
+    sent "L1" option-C 2 1 0 (text "RC,HH.") (text "???") ∷
+    sent "N2" blank 1 1 0 (text "RC.") (text "4") ∷
+    sent "L1" option-C 1 1 0 (text "RC,HH.") (text "???") ∷ []
+
+-- a record that he adds; and after his ET
+committed-added-calls : List Given
+committed-added-calls =
+    sent "N1" blank 1 0 0 (text "RC,HH.") (text "2AB") ∷
+    sent "L1" option-C 2 1 0 (text "RC,HH.") (text "???") ∷
+    sent "L1" blank 2 1 0 (text "RC,HH.") (text "???") ∷
+    sent "L1" option-C 1 1 0 (text "RC,HH.") (text "???") ∷
+    sent "ET" blank 1 0 0 [] [] ∷
+    sent "L1" option-C 2 1 0 (text "RC,HH.") (text "???") ∷ []
+
+-- a record and an empty ISN that he holds and does not change
+committed-held-calls : List Given
+committed-held-calls =
+    sent "N1" blank 1 0 0 (text "RC,HH.") (text "2AB") ∷
+    sent "ET" blank 1 0 0 [] [] ∷
+    sent "HI" blank 1 1 0 [] [] ∷
+    sent "HI" blank 1 2 0 [] [] ∷
+    sent "L1" option-C 2 1 0 (text "RC,HH.") (text "???") ∷
+    sent "L1" option-C 2 2 0 (text "RC,HH.") (text "???") ∷ []
+
+-- `C` with other commands, and what refuses an L1; an access-only user's, and a ready user's
+committed-refused-calls : List Given
+committed-refused-calls =
+    sent "L4" option-C 1 1 0 (text "RC.") (text "?") ∷
+    sent "HI" option-C 1 1 0 [] [] ∷
+    sent "L1" option-C 1 0 0 (text "RC.") (text "?") ∷
+    sent "L1" option-C 1 4 0 (text "RC.") (text "?") ∷
+    sent "L1" option-C 1 1 0 (text "ZZ.") (text "?") ∷
+    sent "L1" option-C 1 1 0 (text "RC,HH.") (text "??") ∷ []
+
+committed-users-calls : List Given
+committed-users-calls =
+    sent "N1" blank 1 0 0 (text "RC,HH.") (text "2AB") ∷
+    sent "ET" blank 1 0 0 [] [] ∷
+    sent "OP" option-A 2 0 0 [] [] ∷
+    sent "L1" option-C 2 1 0 (text "RC.") (text "?") ∷
+    sent "A1" option-H 1 1 0 (text "RC.") (text "3") ∷
+    sent "PE" blank 1 0 0 [] [] ∷
+    sent "L1" option-C 1 1 0 (text "RC.") (text "?") ∷
+    sent "L1" option-C 2 1 901 (text "RC.") (text "?") ∷ []
+
 -- ---- states that nobody set up
 -- user 1 has counted so many transactions
 abbrev counted-to : ℕ → Nucleus → Nucleus
@@ -475,6 +549,45 @@ rows =
     } ∷
     record { computed = printed-on (with-ready true (set-session 0 0 true)) house-table (sent "PE" blank 1 0 0 [] [] ∷ []); expected = text "211 0 0 0" ∷ [] } ∷
     record { computed = printed-on (with-ready false (with-overdue false)) house-table (sent "ET" blank 1 0 0 [] [] ∷ []); expected = text "12 0 0 0" ∷ [] } ∷
+    -- document 02, No. 8: "it shows the record as ended transactions left it. A changed entry's image is shown", the caller's own too
+    record {
+      computed = printed house-table committed-changed-calls;
+      expected = text "0 1 0 0" ∷ text "0 0 1 1" ∷ text "0 1 0 0" ∷ text "0 1 3 0 324142" ∷ text "0 1 3 0 334142" ∷ text "0 1 3 0 324142" ∷ [];
+    } ∷
+    record {
+      computed = printed house-table (committed-then "ET");
+      expected = text "0 1 0 0" ∷ text "0 0 1 1" ∷ text "0 1 0 0" ∷ text "0 1 0 0" ∷ text "0 0 1 2" ∷ text "0 1 3 0 344142" ∷ [];
+    } ∷
+    record {
+      computed = printed house-table (committed-then "BT");
+      expected = text "0 1 0 0" ∷ text "0 0 1 1" ∷ text "0 1 0 0" ∷ text "0 1 0 0" ∷ text "0 0 1 0" ∷ text "0 1 3 0 324142" ∷ [];
+    } ∷
+    -- of an emptied record too, and of one that was added in its place
+    record {
+      computed = printed house-table committed-emptied-calls;
+      expected = text "0 1 0 0" ∷ text "0 0 1 1" ∷ text "0 1 0 0" ∷ text "0 1 3 0 324142" ∷ text "0 1 0 0" ∷ text "0 1 3 0 324142" ∷ [];
+    } ∷
+    -- "or 113 given where no record was before"
+    record {
+      computed = printed house-table committed-added-calls;
+      expected = text "0 1 0 0" ∷ text "113 0 0 0" ∷ text "0 1 3 0 324142" ∷ text "113 0 0 0" ∷ text "0 0 1 1" ∷ text "0 1 3 0 324142" ∷ [];
+    } ∷
+    -- "otherwise the store"
+    record {
+      computed = printed house-table committed-held-calls;
+      expected = text "0 1 0 0" ∷ text "0 0 1 1" ∷ text "0 1 0 0" ∷ text "0 2 0 0" ∷ text "0 1 3 0 324142" ∷ text "113 0 0 0" ∷ [];
+    } ∷
+    -- "L1 gets option `C`", and no other command; the rows are L1's
+    record {
+      computed = printed house-table committed-refused-calls;
+      expected = text "22 0 0 0" ∷ text "22 0 0 0" ∷ text "113 0 0 0" ∷ text "113 0 0 0" ∷ text "41 0 0 0" ∷ text "53 0 0 0" ∷ [];
+    } ∷
+    -- so it serves an access-only user, and no ready one
+    record {
+      computed = printed house-table committed-users-calls;
+      expected =
+          text "0 1 0 0" ∷ text "0 0 1 1" ∷ text "0 0 0 0" ∷ text "0 1 1 0 32" ∷ text "0 1 0 0" ∷ text "0 0 0 0" ∷ text "211 0 0 0" ∷ text "0 1 1 0 32" ∷ [];
+    } ∷
     -- "Judging uniqueness before P is put in stored form"
     record {
       computed = printed packed-table packed-calls;
@@ -504,12 +617,74 @@ rows =
 
 -- ---- which of the 256 option bytes are named for each command
 named-options : map (λ c. sift (has-option c) (numbers 256 0)) direct-commands
-    ≡ (blank ∷ []) ∷ (blank ∷ []) ∷ (blank ∷ option-I ∷ []) ∷ (blank ∷ option-I ∷ []) ∷ (blank ∷ option-H ∷ []) ∷ (blank ∷ option-H ∷ [])
+    ≡ (blank ∷ []) ∷ (blank ∷ []) ∷ (blank ∷ option-C ∷ option-I ∷ []) ∷ (blank ∷ option-I ∷ []) ∷ (blank ∷ option-H ∷ []) ∷ (blank ∷ option-H ∷ [])
     ∷ (blank ∷ []) ∷ (blank ∷ []) ∷ (blank ∷ []) ∷ (blank ∷ []) ∷ (blank ∷ []) ∷ (blank ∷ option-A ∷ []) ∷ (blank ∷ []) ∷ (blank ∷ []) ∷ []
 unfolding has-option
 named-options = refl
 
 -- a `refl` for each row: one for all rows computes several times as long
 computed-as-expected : Each (λ r. r .computed ≡ r .expected) rows
-unfolding assorted-calls doubled-store house-table house-calls one-table two-table packed-table given-up-calls changed-twice-calls emptied-calls going-round-calls hold-only-calls no-fields-calls changed-after-calls nulls-calls no-buffer-calls packed-calls signs-calls beside-lent-calls ready-calls only-ending-calls refused-ready-calls no-transaction-calls ready-once-calls unstored-store lent-store rows record-length field-offset file-offset store-size image-length place valid file-valid field-valid name-valid format-of option-of file-item field-item item-of read-from read-table stored below-zero allowed null-value field-named format-valid element places named-twice length-needed needed-within fits read-fields write-fields values-allowed null-record slot-fits has-record get shown lowest elsewhere put-record empty fresh file-part with-part pack-of unpack-of entries holder held-by repeated append change closed remove-queue remove-images remove-count image-has keep-image settled first-change-queue first-change-images put-back-in put-back restore command-of has-option too-short well-made removed backed-out clocked target rows-usable rows-understood is-overdue session-in-transaction ready-refused access-refused transaction-missing file-unknown isn-invalid format-refused field-twice record-length-refused value-refused none-found held-elsewhere presence-refused not-held release-refused file-full limit-reached queue-full new-record value-taken held imaged written erased effect-at admitted-session admitted-user admitted perform step set-up decimal line-of
-computed-as-expected = (refl, (refl, (refl, (refl, (refl, (refl, (refl, (refl, (refl, (refl, (refl, (refl, (refl, (refl, (refl, (refl, (refl, (refl, (refl, (refl, (refl, (refl, (refl, (refl, (refl, (refl, (refl, (refl, (refl, (refl, (refl, (refl, (refl, (refl, (refl, (refl, (refl, (refl, tt))))))))))))))))))))))))))))))))))))))
+unfolding assorted-calls doubled-store house-table house-calls one-table two-table packed-table given-up-calls changed-twice-calls emptied-calls going-round-calls hold-only-calls no-fields-calls changed-after-calls nulls-calls no-buffer-calls packed-calls signs-calls beside-lent-calls ready-calls only-ending-calls refused-ready-calls no-transaction-calls ready-once-calls committed-changed-calls committed-emptied-calls committed-added-calls committed-held-calls committed-refused-calls committed-users-calls unstored-store lent-store rows record-length field-offset file-offset store-size image-length place valid file-valid field-valid name-valid format-of option-of file-item field-item item-of read-from read-table stored below-zero allowed null-value field-named format-valid element places named-twice length-needed needed-within fits read-fields write-fields values-allowed null-record slot-fits has-record get shown committed-version version-there version-bytes lowest elsewhere put-record empty fresh file-part with-part pack-of unpack-of entries holder held-by repeated append change closed remove-queue remove-images remove-count image-has keep-image settled first-change-queue first-change-images put-back-in put-back restore command-of has-option too-short well-made removed backed-out clocked target rows-usable rows-understood is-overdue session-in-transaction ready-refused access-refused transaction-missing file-unknown isn-invalid format-refused field-twice record-length-refused value-refused none-found held-elsewhere presence-refused not-held release-refused file-full limit-reached queue-full new-record value-taken held imaged written erased effect-at admitted-session admitted-user admitted perform step set-up decimal line-of
+computed-as-expected = (refl, (refl, (refl, (refl, (refl, (refl, (refl, (refl, (refl, (refl, (refl, (refl, (refl, (refl, (refl, (refl, (refl, (refl, (refl, (refl, (refl, (refl, (refl, (refl, (refl, (refl, (refl, (refl, (refl, (refl, (refl, (refl, (refl, (refl, (refl, (refl, (refl, (refl, (refl, (refl, (refl, (refl, (refl, (refl, (refl, (refl, tt))))))))))))))))))))))))))))))))))))))))))))))
+
+-- ---- the record as a part: where it lies, and its bytes
+-- file 1 with highest ISN 1 and one field, RC, of one byte; file 2 with highest ISN 2 and one field, HH, of two
+files-table : List ℕ
+files-table =
+    0x01 ∷ 0x01 ∷ 0x00 ∷ 0x01 ∷ 0x02 ∷ 0x52 ∷ 0x43 ∷ 0x01 ∷ 0x41 ∷ 0x20 ∷
+    0x01 ∷ 0x02 ∷ 0x00 ∷ 0x02 ∷ 0x02 ∷ 0x48 ∷ 0x48 ∷ 0x02 ∷ 0x41 ∷ 0x20 ∷ 0x00 ∷ []
+
+abbrev in-file : ℕ → Given → Given
+in-file file g =
+    given (record { command = g .call .command; option = g .call .option; user = g .call .user; file = file; isn = g .call .isn; limit = g .call .limit; clock = g .call .clock }) (g .format) (g .buffer)
+
+-- a record in each, changed by users 1 and 2, the one of file 2 first; and one that is added
+files-calls : List Given
+files-calls =
+    sent "N1" blank 1 0 0 (text "RC.") (text "A") ∷
+    in-file 2 (sent "N1" blank 1 0 0 (text "HH.") (text "XY")) ∷
+    sent "ET" blank 1 0 0 [] [] ∷
+    in-file 2 (sent "A1" option-H 1 1 0 (text "HH.") (text "ZW")) ∷
+    sent "A1" option-H 2 1 0 (text "RC.") (text "B") ∷
+    in-file 2 (sent "N1" blank 2 0 0 (text "HH.") (text "VU")) ∷ []
+
+abbrev left-by : List Given → Nucleus → Nucleus
+left-by [] n = n
+left-by (g ∷ gs) n = left-by gs (step capacity (g .call) (g .format) (g .buffer) n .nucleus)
+
+abbrev files-left : List Given → Nucleus
+files-left calls = left-by calls (set-up capacity (replicate 8 0) (replicate capacity 0) (replicate (capacity * 2) 0) files-table .nucleus)
+
+record PlaceRow : Type 0 where
+  state : Nucleus
+  file : ℕ
+  isn : ℕ
+  capacity : ℕ
+  place : Place
+  bytes : List ℕ
+
+place-rows : List PlaceRow
+place-rows =
+    -- the image of the second entry, which is two bytes from the first, and is as wide as its file
+    record { state = files-left files-calls; file = 1; isn = 1; capacity = 64; place = in-images 2 1; bytes = text "A" } ∷
+    record { state = files-left files-calls; file = 2; isn = 1; capacity = 64; place = in-images 0 2; bytes = text "XY" } ∷
+    -- added; past the highest ISN; no ISN; no file; "no bytes where `C` gets 11, 12, 17 or 113"
+    record { state = files-left files-calls; file = 2; isn = 2; capacity = 64; place = no-place; bytes = [] } ∷
+    record { state = files-left files-calls; file = 2; isn = 3; capacity = 64; place = no-place; bytes = [] } ∷
+    record { state = files-left files-calls; file = 1; isn = 0; capacity = 64; place = no-place; bytes = [] } ∷
+    record { state = files-left files-calls; file = 3; isn = 1; capacity = 64; place = no-place; bytes = [] } ∷
+    record { state = files-left files-calls; file = 1; isn = 1; capacity = 65; place = no-place; bytes = [] } ∷
+    record { state = files-left files-calls; file = 1; isn = 1; capacity = 2; place = no-place; bytes = [] } ∷
+    -- ended: in the store, behind the first byte of their slots
+    record { state = files-left (files-calls ++ sent "ET" blank 2 0 0 [] [] ∷ []); file = 1; isn = 1; capacity = 64; place = in-store 1 1; bytes = text "B" } ∷
+    record { state = files-left (files-calls ++ sent "ET" blank 2 0 0 [] [] ∷ []); file = 2; isn = 2; capacity = 64; place = in-store 6 2; bytes = text "VU" } ∷
+    -- backed out
+    record { state = files-left (files-calls ++ sent "BT" blank 1 0 0 [] [] ∷ []); file = 2; isn = 1; capacity = 64; place = in-store 3 2; bytes = text "XY" } ∷
+    record { state = files-left (files-calls ++ sent "BT" blank 1 0 0 [] [] ∷ []); file = 1; isn = 1; capacity = 64; place = in-images 0 1; bytes = text "A" } ∷ []
+
+abbrev PlacedAt : PlaceRow → Type 0
+PlacedAt r = (committed-place (r .state) (r .file) (r .isn) (r .capacity) ≡ r .place) × (bytes-at (r .place) (r .state .store) (r .state .images) ≡ r .bytes)
+
+places-as-expected : Each PlacedAt place-rows
+unfolding files-table files-calls place-rows record-length field-offset file-offset store-size image-length place valid file-valid field-valid name-valid format-of option-of file-item field-item item-of read-from read-table stored below-zero allowed null-value field-named format-valid element places named-twice length-needed needed-within fits read-fields write-fields values-allowed null-record slot-fits has-record get shown committed-version version-there version-bytes lowest elsewhere put-record empty fresh file-part with-part pack-of unpack-of entries holder held-by repeated append change closed remove-queue remove-images remove-count image-has keep-image settled first-change-queue first-change-images put-back-in put-back restore command-of has-option too-short well-made removed backed-out clocked target rows-usable rows-understood is-overdue session-in-transaction ready-refused access-refused transaction-missing file-unknown isn-invalid format-refused field-twice record-length-refused value-refused none-found held-elsewhere presence-refused not-held release-refused file-full limit-reached queue-full new-record value-taken held imaged written erased effect-at admitted-session admitted-user admitted perform step set-up version-place bytes-at committed-place
+places-as-expected = ((refl, refl), ((refl, refl), ((refl, refl), ((refl, refl), ((refl, refl), ((refl, refl), ((refl, refl), ((refl, refl), ((refl, refl), ((refl, refl), ((refl, refl), ((refl, refl), tt))))))))))))

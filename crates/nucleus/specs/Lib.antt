@@ -6,6 +6,7 @@ pub mod WellMade
 pub mod Clock
 pub mod Target
 pub mod Rows
+pub mod Committed
 pub mod Effects
 pub mod Step
 pub mod Text

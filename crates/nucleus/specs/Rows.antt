@@ -23,7 +23,7 @@ use Rattle.nucleus.specs.Commands.{command-of, one-of, on-file, at-given
 use Rattle.nucleus.specs.Users.{is-active, is-ready}
 use Rattle.nucleus.specs.Nucleus.{Nucleus, Request, max-users, max-et-data, data-at, user-of, entries-of, width-of}
 use Rattle.nucleus.specs.WellMade.{too-short, well-made}
-use Rattle.nucleus.specs.Target.{is-file, is-isn, other-holds, is-changed, command-in, file-place, file, part, record-at, holder-of, seeks, target, target-isn, held-by-caller, new-record}
+use Rattle.nucleus.specs.Target.{is-file, is-isn, other-holds, is-changed, command-in, file-place, file, part, record-at, holder-of, seeks, target, target-isn, held-by-caller, record-shown, new-record}
 use Rattle.nucleus.specs.declared.Command.{Command}
 use Rattle.nucleus.specs.declared.Command.the-variants.{Ri, A1, N1, N2, Et, Re}
 use Rattle.nucleus.specs.declared.Call.{Call}
@@ -143,10 +143,10 @@ module _ (r : Request) (n : Nucleus) where
   unfoldable pub held-elsewhere : Bool
   held-elsewhere = command-in r n holding && is-isn (target r n) && other-holds (r .call .user) (holder-of r n (target-isn r n))
 
-  -- "no record (L1, L4, A1, E1), or one there (N2)"
+  -- "no record (L1, L4, A1, E1), or one there (N2)"; of L1 with option `C`, none that ended transactions left
   unfoldable pub presence-refused : Bool
   presence-refused =
-      (command-in r n on-record && not (record-at r n (target-isn r n)))
+      (command-in r n on-record && not (record-shown r n (target-isn r n)))
       || (command-in r n (N2 ∷ []) && record-at r n (target-isn r n))
 
   -- "not held by the user (A1, E1 without `H`, RI unless 0)"

@@ -22,8 +22,11 @@ use Rattle.search.specs.declared.Occupied.{Occupied}
 use Rattle.search.specs.declared.Occupied.the-variants.{At, Nowhere}
 use Rattle.queue.specs.declared.Lookup.{Lookup}
 use Rattle.queue.specs.declared.Lookup.the-variants.{Held, Free}
-use Rattle.nucleus.specs.Commands.{one-of, reading-values, option-I}
-use Rattle.nucleus.specs.Nucleus.{Nucleus, Request, entries-of}
+use Rattle.committed.specs.Committed.{committed-version, version-there}
+use Rattle.committed.specs.declared.Version.{Version}
+use Rattle.committed.specs.declared.Version.the-variants.{Stored}
+use Rattle.nucleus.specs.Commands.{one-of, reading-values, reading-committed, option-I, option-C}
+use Rattle.nucleus.specs.Nucleus.{Nucleus, Request, entries-of, width-of}
 use Rattle.nucleus.specs.declared.Command.{Command}
 use Rattle.nucleus.specs.declared.Command.the-variants.{A1, N1}
 
@@ -113,6 +116,18 @@ module _ (r : Request) (n : Nucleus) where
   -- whether the caller holds it
   abbrev pub held-by-caller : Bool
   held-by-caller = is-holder (r .call .user) (holder-of target-isn)
+
+  -- ---- the record that L1 or L4 shows
+  -- option `C` of L1: "it shows the record as ended transactions left it"; otherwise the store's
+  abbrev pub reads-committed : Bool
+  reads-committed = command-in reading-committed && eqb (r .call .option) option-C
+
+  abbrev pub version-read : ℕ → Version
+  version-read isn = cond reads-committed (committed-version (entries-of n) (r .call .file) isn) Stored
+
+  -- whether there is one; commands that show none ask the store
+  abbrev pub record-shown : ℕ → Bool
+  record-shown isn = version-there file part (n .images) (width-of n) (version-read isn) isn
 
   -- ---- the record that A1, N1 or N2 makes at an ISN, in stored form
   -- "A1 replaces the named fields"; of an added one "unnamed fields are null"

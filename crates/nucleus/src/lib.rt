@@ -51,6 +51,9 @@ pub const TAKE_HOLD: u8 = b'H';
 // OP: access-only.
 pub const ACCESS_ONLY: u8 = b'A';
 
+// L1: the record as ended transactions left it.
+pub const COMMITTED: u8 = b'C';
+
 // A call's arguments, but for its two buffers.
 pub struct Call {
     pub command: [u8; 2],

@@ -2,11 +2,12 @@
 ghost use mathlib.Core.Bool.{_&&_};
 ghost use mathlib.Core.Path.{_≡_};
 ghost use lib.Dec.{eqb};
-ghost use Rattle.nucleus.specs.Commands.{one-of, reading-values, changing-held, has-option, option-I};
+ghost use Rattle.nucleus.specs.Commands.{one-of, reading-values, reading-committed, changing-held, has-option, option-I};
 ghost use Rattle.options.specs.Options.{opening-only};
 use nucleus::ACCESS_ONLY;
 use nucleus::AT_OR_ABOVE;
 use nucleus::BLANK;
+use nucleus::COMMITTED;
 use nucleus::Command;
 use nucleus::TAKE_HOLD;
 
@@ -30,6 +31,16 @@ fn changes_held(command: Command) -> bool
     }
 }
 
+// L1, which may read what ended transactions left.
+fn reads_committed(command: Command) -> bool
+    ensures { λ r. ⌜ r ≡ one-of reading-committed command ⌝ }
+{
+    match command {
+        Command::L1 => true,
+        _ => false,
+    }
+}
+
 fn opens(command: Command) -> bool
     ensures { λ r. ⌜ r ≡ one-of opening-only command ⌝ }
 {
@@ -48,6 +59,7 @@ pub fn has_option(command: Command, option: u8) -> bool
         AT_OR_ABOVE => reads_values(command),
         TAKE_HOLD => changes_held(command),
         ACCESS_ONLY => opens(command),
+        COMMITTED => reads_committed(command),
         _ => false,
     }
 }

@@ -18,6 +18,7 @@ use Rattle.elements.specs.Elements.{field-named, format-valid, element, places,
 use Rattle.fields.specs.Fields.{fits, read-fields, write-fields, values-allowed}
 use Rattle.nulls.specs.Nulls.{null-record}
 use Rattle.store.specs.Store.{slot-fits, has-record, get, shown, put-record, empty, fresh, file-part, with-part}
+use Rattle.committed.specs.Committed.{committed-version, version-there, version-bytes}
 use Rattle.search.specs.Search.{lowest, elsewhere}
 use Rattle.entries.specs.Entries.{pack-of, unpack-of, entries}
 use Rattle.queue.specs.Queue.{holder, held-by, append}
@@ -89,5 +90,5 @@ rows =
     record { computed = output []; expected = "bad" ∷ [] } ∷ []
 
 as-expected : Each (λ r. r .computed ≡ written-lines (r .expected)) rows
-unfolding house-table large-table first-call house-calls rows well-formed given-by call-of lines output code-at record-length field-offset file-offset store-size image-length place valid file-valid field-valid name-valid format-of option-of file-item field-item item-of read-from read-table stored below-zero allowed null-value field-named format-valid element places named-twice length-needed needed-within fits read-fields write-fields values-allowed null-record slot-fits has-record get shown lowest elsewhere put-record empty fresh file-part with-part pack-of unpack-of entries holder held-by repeated append change closed remove-queue remove-images remove-count image-has keep-image settled first-change-queue first-change-images put-back-in put-back restore command-of has-option too-short well-made removed backed-out clocked target rows-usable rows-understood is-overdue session-in-transaction ready-refused access-refused transaction-missing file-unknown isn-invalid format-refused field-twice record-length-refused value-refused none-found held-elsewhere presence-refused not-held release-refused file-full limit-reached queue-full new-record value-taken held imaged written erased effect-at admitted-session admitted-user admitted perform step set-up decimal line-of
+unfolding house-table large-table first-call house-calls rows well-formed given-by call-of lines output code-at record-length field-offset file-offset store-size image-length place valid file-valid field-valid name-valid format-of option-of file-item field-item item-of read-from read-table stored below-zero allowed null-value field-named format-valid element places named-twice length-needed needed-within fits read-fields write-fields values-allowed null-record slot-fits has-record get shown lowest elsewhere put-record empty fresh file-part with-part pack-of unpack-of entries holder held-by repeated append change closed remove-queue remove-images remove-count image-has keep-image settled first-change-queue first-change-images put-back-in put-back restore command-of has-option too-short well-made removed backed-out clocked target rows-usable rows-understood is-overdue session-in-transaction ready-refused access-refused transaction-missing file-unknown isn-invalid format-refused field-twice record-length-refused value-refused none-found held-elsewhere committed-version version-there version-bytes presence-refused not-held release-refused file-full limit-reached queue-full new-record value-taken held imaged written erased effect-at admitted-session admitted-user admitted perform step set-up decimal line-of
 as-expected = (refl, (refl, (refl, (refl, (refl, (refl, (refl, (refl, (refl, (refl, (refl, tt)))))))))))

@@ -1,19 +1,21 @@
-// L1 reads; L4 holds and reads (document 01). What is read comes from the store as a part of it.
+// L1 reads; L4 holds and reads (document 01). What is read comes as a part of the store, or with option `C` of L1 (document 02, No. 8) of the image
+// buffer where an open transaction changed it.
 ghost use mathlib.Core.Path.{_≡_};
-ghost use mathlib.Core.Bool.{true};
 ghost use mathlib.Core.List.{_∷_};
 ghost use Prim.Native.Nat.{_≤_};
 ghost use lib.ListN.{length};
 ghost use Rattle.elements.specs.Elements.{length-needed};
 ghost use Rattle.fields.specs.Fields.{read-fields};
-ghost use Rattle.store.specs.Store.{has-record, shown};
+ghost use Rattle.records.specs.Records.{record-length};
 ghost use Rattle.nucleus.specs.Rows.{first-cause};
 ghost use Rattle.shares.specs.Shares.{verdict};
-ghost use Rattle.shares.specs.Chains.{sought, row-other, row-there, rows-room};
+ghost use Rattle.shares.specs.Chains.{sought, row-other, row-there, rows-room, version-at};
 ghost use Rattle.shares.specs.Outcomes.{l1-done, l1-buffer, l4-done, l4-queue, l4-buffer};
 ghost use Rattle.retrieval.specs.Retrieval.{read-target};
+use committed::Version;
 use definition::File;
 use nucleus::AT_OR_ABOVE;
+use nucleus::COMMITTED;
 use nucleus::Call;
 use nucleus::Response;
 use search::Occupied;
@@ -52,31 +54,52 @@ fn read_target(call: Call, f: File, part: &[u8], format: &[u8], buffer: &[u8]) -
     Target::At(isn)
 }
 
-// Writes the named fields of the ISN's record at the front of the record buffer and answers how many bytes those are.
-fn read(f: File, part: &[u8], isn: u16, format: &[u8], buffer: &mut [u8]) -> usize
-    requires { ⌜ has-record f (now part) isn ≡ true ⌝ }
+// Writes the named fields of a record at the front of the record buffer and answers how many bytes those are.
+fn read(f: File, content: &[u8], format: &[u8], buffer: &mut [u8]) -> usize
+    requires { ⌜ record-length f ≤ length (now content) ⌝ }
     requires { ⌜ length-needed f (now format) ≤ length (now buffer) ⌝ }
     ensures { λ r. ⌜ r ≡ length-needed f (now (format .entry)) ⌝ }
-    ensures { λ _. ⌜ now (buffer .exit) ≡ read-fields f (now (format .entry)) (shown f (now (part .entry)) isn) (now (buffer .entry)) ⌝ }
+    ensures { λ _. ⌜ now (buffer .exit) ≡ read-fields f (now (format .entry)) (now (content .entry)) (now (buffer .entry)) ⌝ }
 {
-    let content = store::record_part(f, part, isn);
     fields::read_fields(f, format, content, buffer)
 }
 
-// L1 looks at no hold.
-pub fn l1(call: Call, share: Share, f: File, part: &[u8], format: &[u8], buffer: &mut [u8]) -> Done
-    ensures { λ r. ⌜ r ≡ l1-done call share f (now (part .entry)) (now (format .entry)) (now (buffer .entry)) ⌝ }
-    ensures { λ _. ⌜ now (buffer .exit) ≡ l1-buffer call share f (now (part .entry)) (now (format .entry)) (now (buffer .entry)) ⌝ }
+// The version of a record that L1 reads: the store's, or with option `C` the one that ended transactions left.
+fn version_at(call: Call, share: Share, queue: &[u64], isn: u16) -> Version
+    ensures { λ r. ⌜ r ≡ version-at call share (now (queue .entry)) isn ⌝ }
+{
+    if call.option == COMMITTED {
+        return committed::committed_version(queue, share.count, call.file, isn);
+    }
+    Version::Stored
+}
+
+// L1 looks at no hold, but for the images of changed entries with option `C`.
+pub fn l1<'a>(
+    call: Call,
+    share: Share,
+    width: usize,
+    f: File,
+    part: &'a [u8],
+    queue: &[u64],
+    images: &'a [u8],
+    format: &[u8],
+    buffer: &mut [u8],
+) -> Done
+    ensures { λ r. ⌜ r ≡ l1-done call share f (now (part .entry)) (now (format .entry)) (now (buffer .entry)) (now (queue .entry)) (now (images .entry)) width ⌝ }
+    ensures { λ _. ⌜ now (buffer .exit) ≡ l1-buffer call share f (now (part .entry)) (now (format .entry)) (now (buffer .entry)) (now (queue .entry)) (now (images .entry)) width ⌝ }
 {
     let target = read_target(call, f, part, format, buffer);
     let isn = match target {
         Target::At(isn) => isn,
         Target::Refused(cause) => return shares::refused(cause, share),
     };
-    if !store::has_record(f, part, isn) {
+    let version = version_at(call, share, queue, isn);
+    if !committed::version_there(f, part, images, width, version, isn) {
         return shares::refused(Response::Presence, share);
     }
-    let quantity = read(f, part, isn, format, buffer);
+    let content = committed::version_part(f, part, images, width, version, isn);
+    let quantity = read(f, content, format, buffer);
     shares::good(isn, quantity, 0, share)
 }
 
@@ -129,6 +152,7 @@ pub fn l4(
     }
     // A record is there.
     let held = holding::hold(call, clock, share, queue, isn, true);
-    let quantity = read(f, part, isn, format, buffer);
+    let content = store::record_part(f, part, isn);
+    let quantity = read(f, content, format, buffer);
     shares::good(isn, quantity, 0, held)
 }

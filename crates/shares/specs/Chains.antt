@@ -30,7 +30,10 @@ use Rattle.images.specs.Images.{image-has}
 use Rattle.removal.specs.Removal.{remove-queue, remove-images, remove-count}
 use Rattle.removal.specs.declared.Removal.{Removal}
 use Rattle.removal.specs.declared.Removal.the-variants.{One, Unchanged}
-use Rattle.nucleus.specs.Commands.{option-I, option-H}
+use Rattle.committed.specs.Committed.{committed-version, version-there}
+use Rattle.committed.specs.declared.Version.{Version}
+use Rattle.committed.specs.declared.Version.the-variants.{Stored}
+use Rattle.nucleus.specs.Commands.{option-I, option-H, option-C}
 use Rattle.nucleus.specs.Users.{max-sequence, started}
 use Rattle.nucleus.specs.Nucleus.{max-et-data}
 use Rattle.nucleus.specs.Target.{is-isn, isn-in, is-holder, other-holds, is-changed}
@@ -149,6 +152,10 @@ module _ (call : Call) (x : Share) (queue : List ℕ) where
   unfoldable pub e1-cause : File → List ℕ → ℕ → Option Response
   e1-cause f part room = first-cause (row-other (call .isn) ∷ row-there f part (call .isn) ∷ row-held (call .isn) ∷ rows-room room (call .isn))
 
+  -- ---- L1: the record that the store has, or with option `C` the one that ended transactions left
+  unfoldable pub version-at : ℕ → Version
+  version-at isn = cond (eqb (call .option) option-C) (committed-version in-use (call .file) isn) Stored
+
 -- ---- L1 and L4
 module _ (call : Call) (f : File) (part : List ℕ) where
   -- the ISN that they are about
@@ -162,8 +169,13 @@ module _ (call : Call) (f : File) (part : List ℕ) where
   abbrev pub row-found : Row
   row-found = row NotFound (not (is-isn sought))
 
-  unfoldable pub l1-cause : List ℕ → List ℕ → Option Response
-  l1-cause format buffer = first-cause (rows-read f format buffer ++ row-found ∷ row-there f part sought-isn ∷ [])
+  module _ (x : Share) (queue images : List ℕ) (width : ℕ) where
+    -- 113, second, of the version that L1 reads
+    abbrev pub row-shown : ℕ → Row
+    row-shown isn = row Presence (not (version-there f part images width (version-at call x queue isn) isn))
+
+    unfoldable pub l1-cause : List ℕ → List ℕ → Option Response
+    l1-cause format buffer = first-cause (rows-read f format buffer ++ row-found ∷ row-shown sought-isn ∷ [])
 
   unfoldable pub l4-cause : Share → List ℕ → ℕ → List ℕ → List ℕ → Option Response
   l4-cause x queue room format buffer =

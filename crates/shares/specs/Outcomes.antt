@@ -8,6 +8,7 @@ use Rattle.definition.specs.declared.File.{File}
 use Rattle.elements.specs.Elements.{length-needed}
 use Rattle.fields.specs.Fields.{read-fields}
 use Rattle.store.specs.Store.{has-record, record-of, shown, put-record, empty}
+use Rattle.committed.specs.Committed.{version-bytes}
 use Rattle.removal.specs.declared.Removal.the-variants.{All}
 use Rattle.nucleus.specs.Commands.{option-A}
 use Rattle.nucleus.specs.Users.{set-session, closed, counted, made-ready, ended}
@@ -15,7 +16,7 @@ use Rattle.nucleus.specs.Responses.{good}
 use Rattle.nucleus.specs.declared.Call.{Call}
 use Rattle.nucleus.specs.declared.Response.{Response}
 use Rattle.shares.specs.Shares.{share, share-with-user, share-with-count, share-with-assigned, done, done-unless, kept-by}
-use Rattle.shares.specs.Chains.{held-share, held-queue, imaged-queue, imaged-images, hi-cause, ri-cause, sought-isn, l1-cause, l4-cause, left-count, left-queue, left-images, gone, released, next-sequence, data-brought, et-cause, re-cause, re-buffer}
+use Rattle.shares.specs.Chains.{held-share, held-queue, imaged-queue, imaged-images, hi-cause, ri-cause, sought-isn, version-at, l1-cause, l4-cause, left-count, left-queue, left-images, gone, released, next-sequence, data-brought, et-cause, re-cause, re-buffer}
 use Rattle.shares.specs.declared.Share.{Share}
 use Rattle.shares.specs.declared.Done.{Done}
 
@@ -48,11 +49,16 @@ module _ (call : Call) (x : Share) (f : File) (part format buffer : List ℕ) wh
   unfoldable pub read-buffer : List ℕ
   read-buffer = read-fields f format (shown f part (sought-isn call f part)) buffer
 
-  abbrev pub l1-done : Done
-  l1-done = done-unless (l1-cause call f part format buffer) x (read-done x)
+  module _ (queue images : List ℕ) (width : ℕ) where
+    unfoldable pub version-buffer : List ℕ
+    version-buffer =
+        read-fields f format (version-bytes f part images width (version-at call x queue (sought-isn call f part)) (sought-isn call f part)) buffer
 
-  abbrev pub l1-buffer : List ℕ
-  l1-buffer = kept-by (l1-cause call f part format buffer) buffer read-buffer
+    abbrev pub l1-done : Done
+    l1-done = done-unless (l1-cause call f part x queue images width format buffer) x (read-done x)
+
+    abbrev pub l1-buffer : List ℕ
+    l1-buffer = kept-by (l1-cause call f part x queue images width format buffer) buffer version-buffer
 
   module _ (queue : List ℕ) (room : ℕ) where
     abbrev pub l4-done : ℕ → Done

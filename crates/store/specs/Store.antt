@@ -49,7 +49,7 @@ record-of f part isn = piece (slot-offset f isn + 1) (record-length f) part
 unfoldable pub get : File → List ℕ → ℕ → Option (List ℕ)
 get f part isn = cond (has-record f part isn) (some (record-of f part isn)) none
 
--- what a reading shows of an ISN: its record, and no bytes where there is none. A later request that shows another record replaces only this
+-- what the store shows of an ISN: its record, and no bytes where there is none
 unfoldable pub shown : File → List ℕ → ℕ → List ℕ
 shown f part isn = cond (has-record f part isn) (record-of f part isn) []
 

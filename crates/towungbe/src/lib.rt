@@ -1,7 +1,9 @@
 // The nucleus for programs in other languages: functions over plain numbers, structs of them, and lent slices, each for any arguments.
 ghost use mathlib.Core.Path.{_≡_};
 ghost use Rattle.direct_calls.specs.Kept.{left, kept-reply, kept-call};
+ghost use Rattle.direct_calls.specs.Places.{kept-place};
 ghost use Rattle.kept_setup.specs.KeptSetup.{kept-nucleus, kept-made, kept-set-up, store-bytes, image-bytes};
+use committed::Place;
 use entries::Entry;
 use kept_states::ControlBlock;
 use kept_states::KeptState;
@@ -68,4 +70,22 @@ pub extern "C" fn towungbe_image_size(table: &[u8], capacity: usize) -> usize
     ensures { λ r. ⌜ r ≡ image-bytes capacity (now (table .entry)) ⌝ }
 {
     kept_setup::image_bytes(table, capacity)
+}
+
+// Where the record of a file and an ISN lies as ended transactions left it: in the image buffer or in the store, or nowhere. It is no call, and
+// changes nothing but the place.
+#[no_mangle]
+pub extern "C" fn towungbe_committed_place(
+    state: &KeptState,
+    capacity: usize,
+    file: u8,
+    isn: u16,
+    store: &[u8],
+    queue: &[Entry],
+    images: &[u8],
+    place: &mut Place,
+)
+    ensures { λ _. ⌜ now (place .exit) ≡ kept-place capacity (now (state .entry)) file isn (now (store .entry)) (now (queue .entry)) (now (images .entry)) ⌝ }
+{
+    *place = direct_calls::kept_place(*state, capacity, file, isn, store, queue, images);
 }

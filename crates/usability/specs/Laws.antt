@@ -1,9 +1,12 @@
--- What the rows of 11 and 12 come to, test by test.
+-- What the rows of 11 and 12 come to, test by test; and what a nucleus that passes them has.
 -- Assumes nothing.
 use Prim.Native.Nat.{ℕ}
 use mathlib.Core.Path.{_≡_}
 use mathlib.Core.Bool.{Bool, true, false, not, _&&_}
+use mathlib.Core.List.{List, [], _∷_}
+use mathlib.Core.Option.{none}
 use lib.Dec.{leb}
+use borrow.Author.Tests.{not-false}
 use Rattle.lists.specs.Tests.{and-false}
 use Rattle.lists.specs.Folds.{all}
 use Rattle.definition.specs.Table.{files-of}
@@ -12,9 +15,10 @@ use Rattle.validity.specs.Validity.{valid}
 use Rattle.repeats.specs.Repeats.{repeated}
 use Rattle.nucleus.specs.Nucleus.{Nucleus, entries-of}
 use Rattle.nucleus.specs.WellMade.{too-short, well-made, entry-made, user-made, assigned-made, data-made}
-use Rattle.nucleus.specs.Rows.{first-cause, rows-usable}
+use Rattle.nucleus.specs.Rows.{Row, row, first-cause, rows-usable}
 use Rattle.nucleus.specs.declared.Response.the-variants.{BufferTooShort, StateInvalid}
 use Rattle.shares.specs.Shares.{verdict}
+use Rattle.shares.specs.Laws.{row-passed}
 use Rattle.shares.specs.declared.Verdict.{Verdict}
 use Rattle.shares.specs.declared.Verdict.the-variants.{Passed, Refused}
 
@@ -83,3 +87,19 @@ module _ (capacity : ℕ) (n : Nucleus) where
       → well-made capacity n ≡ true
   unfolding well-made
   all-made v c r e u a m = rw (v, c, r, e, u, a, m)
+
+-- ---- what a nucleus that is usable has
+module _ (capacity : ℕ) (n : Nucleus) (usable : first-cause (rows-usable capacity n) ≡ none) where
+  abbrev rest : List Row
+  rest = row BufferTooShort (too-short (n .state .definition) capacity (n .store) (n .queue) (n .images)) ∷ row StateInvalid (not (well-made capacity n)) ∷ []
+
+  valid-first : not (valid (n .state .definition)) ≡ false
+  unfolding rows-usable
+  valid-first = row-passed (row StateInvalid (not (valid (n .state .definition)))) rest usable
+
+  pub usable-valid : valid (n .state .definition) ≡ true
+  usable-valid = not-false (valid (n .state .definition)) valid-first
+
+  pub usable-long : too-short (n .state .definition) capacity (n .store) (n .queue) (n .images) ≡ false
+  unfolding rows-usable
+  usable-long = row-passed (row BufferTooShort (too-short (n .state .definition) capacity (n .store) (n .queue) (n .images))) (row StateInvalid (not (well-made capacity n)) ∷ []) (rw valid-first at usable)

@@ -6,15 +6,13 @@ use mathlib.Core.Bool.{false}
 use mathlib.Core.List.{List, _++_}
 use lib.ListN.{length, take, drop}
 use Rattle.definition.specs.Table.{file-at, file-count}
-use Rattle.definition.specs.Shape.{DefinitionShape, file-shape-at, file-or-none-at}
+use Rattle.definition.specs.Shape.{DefinitionShape, file-or-none-at}
 use Rattle.definition.specs.declared.Definition.{Definition}
 use Rattle.definition.specs.declared.File.{File}
 use Rattle.definition.proofs.Known.{definition-known}
 use Rattle.records.specs.Records.{file-size}
-use Rattle.records.specs.Bounds.{file-size-most}
 use Rattle.records.specs.declared.Found.the-variants.{At}
 use Rattle.layout.specs.Layout.{file-offset, store-size, image-length}
-use Rattle.layout.specs.Laws.{place-found, file-within, store-size-most}
 use Rattle.store.specs.Files.{file-part-is, with-part-is}
 use Rattle.nucleus.specs.declared.Call.{Call}
 use Rattle.nucleus.specs.declared.Command.{Command}
@@ -22,6 +20,7 @@ use Rattle.shares.specs.declared.Share.{Share}
 use Rattle.shares.specs.declared.Done.{Done}
 use Rattle.file_commands.specs.FileCommands.{Left, left, on-file}
 use Rattle.understanding.specs.Understanding.{isn-refused}
+use Rattle.usability.specs.Parts.{store-size-bounded, found-inside, part-ends}
 use Rattle.calls.specs.Commands.{in-file}
 use borrow.Author.Needs.{needs}
 use Rattle.calls.proofs.in_file.Statement.{statement}
@@ -52,7 +51,7 @@ there : (c : tie.After-known-told) → entry c .args .found ≡ At (found-file c
 there c = c .before .found .given .1
 
 inside : (c : tie.After-known-told) → found-file c < file-count (entry c .args .d)
-inside c = place-found (entry c .args .d) (shape c) _ _ (sym (entry c .pre .0) ∙ there c) .0
+inside c = found-inside (entry c .args .d) (shape c) _ _ (sym (entry c .pre .0) ∙ there c)
 
 -- the file that is handed on
 file-is : (c : tie.After-file-at) → c .file-at .result ≡ file-at (entry (c .before) .args .d) (found-file (c .before))
@@ -64,14 +63,11 @@ ends : (c : tie.After-file-size) → let k = c .before .before .before .before .
 ends c =
     let k = c .before .before .before .before .before .before in
     let size = c .file-size .ensures ∙ ap file-size (file-is (c .before .before .before .before .before)) in
-    (size, omega (arith, size, c .before .file-offset .ensures, file-within (entry k .args .d) (shape k) (found-file k) (inside k)))
+    (size, omega (arith, size, c .before .file-offset .ensures, part-ends (entry k .args .d) (shape k) _ _ (sym (entry k .pre .0) ∙ there k)))
 
 -- and no store is too large for a number
 bounded : (k : tie.After-known-told) → store-size (entry k .args .d) ≤ 16 * 267448335
-bounded k =
-    let d = entry k .args .d in
-    let most = store-size-most d (shape k) 267448335 (λ i h. file-size-most (file-at d i) (file-shape-at d (shape k) i (omega arith))) in
-    omega (arith, most)
+bounded k = store-size-bounded (entry k .args .d) (shape k)
 
 enum-known-found : tie.Need-enum-known-found
 enum-known-found c = search needs

@@ -17,13 +17,14 @@ use Rattle.nucleus.specs.declared.Command.{Command}
 use Rattle.nucleus.specs.declared.Response.{Response}
 use Rattle.nucleus.specs.declared.State.{State}
 use Rattle.shares.specs.Causes.{verdict-refused, verdict-passed}
+use Rattle.usability.specs.Laws.{usable-valid, usable-long}
 use Rattle.usability.specs.Sizes.{store-long, queue-long}
 use Rattle.understanding.specs.Understanding.{understood-as}
 use Rattle.understanding.specs.Laws.{refused-cause, understood-plain}
 use Rattle.understanding.specs.declared.Understood.the-variants.{As}
 use Rattle.calls.specs.Outcome.{outcome}
 use Rattle.calls.specs.declared.Outcome.{Outcome}
-use Rattle.calls.specs.StepLaws.{step-unusable, step-misunderstood, usable-valid, usable-long, refused-through, performed-through}
+use Rattle.calls.specs.StepLaws.{step-unusable, step-misunderstood, refused-through, performed-through}
 use borrow.Author.Needs.{needs}
 use Rattle.calls.proofs.step.Statement.{statement}
 use Rattle.calls.proofs.step.Tie as tie

@@ -134,21 +134,27 @@ same-length-5 c = search needs
 same-length-6 : tie.Need-same-length-6
 same-length-6 c = search needs
 
-returns-3 : tie.Need-returns-3
-unfolding on-file
-returns-3 c =
-    let s = c .before .before .before .before .before .before .before .before .before .before .before .before in
-    let e = c .before .before .l1 .ensures in
-    as-told s L1 _ (λ i. left (e .0 i) (s .args .part .now) (s .args .queue .now) (s .args .images .now) (e .1 i)) (c .before .before .before .before .before .enum-told3 .given .1)
-
 same-length-7 : tie.Need-same-length-7
 same-length-7 c = search needs
 
 same-length-8 : tie.Need-same-length-8
 same-length-8 c = search needs
 
+returns-3 : tie.Need-returns-3
+unfolding on-file
+returns-3 c =
+    let s = c .before .before .before .before .before .before .before .before .before .before .before .before .before .before in
+    let e = c .before .before .l1 .ensures in
+    as-told s L1 _ (λ i. left (e .0 i) (s .args .part .now) (s .args .queue .now) (s .args .images .now) (e .1 i)) (c .before .before .before .before .before .before .before .enum-told3 .given .1)
+
 same-length-9 : tie.Need-same-length-9
 same-length-9 c = search needs
+
+same-length-10 : tie.Need-same-length-10
+same-length-10 c = search needs
+
+same-length-11 : tie.Need-same-length-11
+same-length-11 c = search needs
 
 returns-4 : tie.Need-returns-4
 unfolding on-file
@@ -157,17 +163,17 @@ returns-4 c =
     let e = c .before .before .before .before .l4 .ensures in
     as-told s L4 _ (λ i. left (e .0 i) (s .args .part .now) (e .1 .0 i) (s .args .images .now) (e .1 .1 i)) (c .before .before .before .before .before .before .before .before .enum-told4 .given .1)
 
-same-length-10 : tie.Need-same-length-10
-same-length-10 c = search needs
-
-same-length-11 : tie.Need-same-length-11
-same-length-11 c = search needs
-
 same-length-12 : tie.Need-same-length-12
 same-length-12 c = search needs
 
 same-length-13 : tie.Need-same-length-13
 same-length-13 c = search needs
+
+same-length-14 : tie.Need-same-length-14
+same-length-14 c = search needs
+
+same-length-15 : tie.Need-same-length-15
+same-length-15 c = search needs
 
 returns-5 : tie.Need-returns-5
 unfolding on-file
@@ -176,14 +182,14 @@ returns-5 c =
     let e = c .before .before .before .before .before .before .a1 .ensures in
     as-told s A1 _ (λ i. left (e .0 i) (e .1 .0 i) (e .1 .1 .0 i) (e .1 .1 .1 i) (s .args .buffer .now)) (c .before .before .before .before .before .before .before .before .before .before .before .enum-told5 .given .1)
 
-same-length-14 : tie.Need-same-length-14
-same-length-14 c = search needs
-
-same-length-15 : tie.Need-same-length-15
-same-length-15 c = search needs
-
 same-length-16 : tie.Need-same-length-16
 same-length-16 c = search needs
+
+same-length-17 : tie.Need-same-length-17
+same-length-17 c = search needs
+
+same-length-18 : tie.Need-same-length-18
+same-length-18 c = search needs
 
 returns-6 : tie.Need-returns-6
 unfolding on-file
@@ -192,17 +198,17 @@ returns-6 c =
     let e = c .before .before .before .before .before .before .e1 .ensures in
     as-told s E1 _ (λ i. left (e .0 i) (e .1 .0 i) (e .1 .1 .0 i) (e .1 .1 .1 i) (s .args .buffer .now)) (c .before .before .before .before .before .before .before .before .before .before .enum-told6 .given .1)
 
-same-length-17 : tie.Need-same-length-17
-same-length-17 c = search needs
-
-same-length-18 : tie.Need-same-length-18
-same-length-18 c = search needs
-
 same-length-19 : tie.Need-same-length-19
 same-length-19 c = search needs
 
 same-length-20 : tie.Need-same-length-20
 same-length-20 c = search needs
+
+same-length-21 : tie.Need-same-length-21
+same-length-21 c = search needs
+
+same-length-22 : tie.Need-same-length-22
+same-length-22 c = search needs
 
 returns-7 : tie.Need-returns-7
 unfolding on-file
@@ -211,17 +217,17 @@ returns-7 c =
     let e = c .before .before .before .before .before .before .n1 .ensures in
     as-told s N1 _ (λ i. left (e .0 i) (e .1 .0 i) (e .1 .1 .0 i) (e .1 .1 .1 i) (s .args .buffer .now)) (c .before .before .before .before .before .before .before .before .before .before .before .enum-told7 .given .1)
 
-same-length-21 : tie.Need-same-length-21
-same-length-21 c = search needs
-
-same-length-22 : tie.Need-same-length-22
-same-length-22 c = search needs
-
 same-length-23 : tie.Need-same-length-23
 same-length-23 c = search needs
 
 same-length-24 : tie.Need-same-length-24
 same-length-24 c = search needs
+
+same-length-25 : tie.Need-same-length-25
+same-length-25 c = search needs
+
+same-length-26 : tie.Need-same-length-26
+same-length-26 c = search needs
 
 returns-8 : tie.Need-returns-8
 unfolding on-file
@@ -265,28 +271,30 @@ on-file-spec =
     returns-2
     same-length-5
     same-length-6
-    returns-3
     same-length-7
     same-length-8
+    returns-3
     same-length-9
-    returns-4
     same-length-10
     same-length-11
+    returns-4
     same-length-12
     same-length-13
-    returns-5
     same-length-14
     same-length-15
+    returns-5
     same-length-16
-    returns-6
     same-length-17
     same-length-18
+    returns-6
     same-length-19
     same-length-20
-    returns-7
     same-length-21
     same-length-22
+    returns-7
     same-length-23
     same-length-24
+    same-length-25
+    same-length-26
     returns-8
     returns-9)

@@ -2,9 +2,11 @@
 -- Assumes nothing.
 use mathlib.Core.Path.{_≡_, sym, ap, _∙_}
 use mathlib.Core.Bool.{or-false}
+use mathlib.Core.List.{[], _∷_}
 use borrow.Author.Needs.{needs}
 use borrow.Author.Tests.{ne-eqb}
 use Rattle.nucleus.specs.Commands.{one-of, reading-values, changing-held, has-option}
+use Rattle.nucleus.specs.declared.Command.the-variants.{Op}
 use Rattle.options.proofs.has_option.Statement.{statement}
 use Rattle.options.proofs.has_option.Tie as tie
 
@@ -16,6 +18,9 @@ changes-held-requires c κs = search needs
 
 opens-requires : tie.Need-opens-requires
 opens-requires c κs = search needs
+
+reads-committed-requires : tie.Need-reads-committed-requires
+reads-committed-requires c κs = search needs
 
 returns : tie.Need-returns
 unfolding has-option
@@ -37,11 +42,20 @@ returns-3 c =
 
 returns-4 : tie.Need-returns-4
 unfolding has-option
-returns-4 c = c .opens .ensures ∙ sym (ap (has-option (c .before .before .args .command)) (c .before .match .keys4))
+returns-4 c =
+    let command = c .before .before .args .command in
+    let here : has-option command 65 ≡ one-of (Op ∷ []) command = simp or-false in
+    c .opens .ensures ∙ sym (ap (has-option command) (c .before .match .keys4) ∙ here)
 
 returns-5 : tie.Need-returns-5
 unfolding has-option
-returns-5 c = let r = c .match .rest in rw (ne-eqb _ 32 (r .0 .0 .0 .1), ne-eqb _ 73 (r .0 .0 .1), ne-eqb _ 72 (r .0 .1), ne-eqb _ 65 (r .1))
+returns-5 c = c .reads-committed .ensures ∙ sym (ap (has-option (c .before .before .args .command)) (c .before .match .keys5))
+
+returns-6 : tie.Need-returns-6
+unfolding has-option
+returns-6 c =
+    let r = c .match .rest in
+    rw (ne-eqb _ 32 (r .0 .0 .0 .0 .1), ne-eqb _ 73 (r .0 .0 .0 .1), ne-eqb _ 72 (r .0 .0 .1), ne-eqb _ 65 (r .0 .1), ne-eqb _ 67 (r .1))
 
 pub has-option-spec : {M : Type 1} → statement M
 has-option-spec =
@@ -50,8 +64,10 @@ has-option-spec =
     reads-values-requires
     changes-held-requires
     opens-requires
+    reads-committed-requires
     returns
     returns-2
     returns-3
     returns-4
-    returns-5)
+    returns-5
+    returns-6)

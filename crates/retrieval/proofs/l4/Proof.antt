@@ -1,14 +1,17 @@
 -- `l4` meets its contract: each `return` says how the rows before it came out, in the table's order. A record that passed 113 is there.
 -- Assumes nothing.
 use Prim.Native.Nat.{ℕ}
-use mathlib.Core.Path.{_≡_, refl, sym, _∙_}
+use native.Mathlib.Omega.{arith}
+use mathlib.Core.Path.{_≡_, refl, sym, ap, _∙_}
 use mathlib.Core.Bool.{true}
 use mathlib.Core.List.{List, [], _∷_}
 use mathlib.Core.Option.{Option, none, some}
+use lib.ListN.{length}
 use borrow.Author.Needs.{needs}
 use borrow.Author.Tests.{not-false}
 use Rattle.definition.specs.declared.File.{File}
 use Rattle.store.specs.Store.{has-record}
+use Rattle.store.specs.Laws.{shown-length}
 use Rattle.nucleus.specs.Rows.{Row, first-cause}
 use Rattle.nucleus.specs.declared.Call.{Call}
 use Rattle.nucleus.specs.declared.Response.{Response}
@@ -128,12 +131,17 @@ enum-told c = search needs
 hold-requires : tie.Need-hold-requires
 hold-requires c κs = search needs
 
+record-part-requires : tie.Need-record-part-requires
+record-part-requires c κs = search needs
+
 read-requires : tie.Need-read-requires
 read-requires c κs =
-    let t = c .before .before .before .before .before in
+    let p = c .before in
+    let t = p .before .before .before .before .before in
     let k = held-at t in
     let a = entry (sought-at k) .args in
-    (there t, target-room (a .call) (a .f) (a .part .now) (a .format .now) (a .buffer .now) _ (target k))
+    let whole = ap length (p .record-part .ensures) ∙ shown-length (a .f) (a .part .now) _ (there t) in
+    (omega (arith, whole), target-room (a .call) (a .f) (a .part .now) (a .format .now) (a .buffer .now) _ (target k))
 
 good-requires : tie.Need-good-requires
 good-requires c κs = search needs
@@ -148,12 +156,13 @@ returns-3 : tie.Need-returns-3
 unfolding read-buffer
 returns-3 c =
     let r = c .before .before .before in
-    let h = r .before .before .before .before in
+    let p = r .before .before in
+    let h = p .before .before .before in
     let t = h .before .before in
     let k = held-at t in
     let a = entry (sought-at k) .args in
     rw (cause-left k ∙ passed t, target-sought (a .call) (a .f) (a .part .now) (a .format .now) (a .buffer .now) _ (target k), there t, ← (r .read .ensures .0), ← (h .hold .ensures .0))
-    (c .good2 .ensures, (h .hold .ensures .1, r .read .ensures .1))
+    (c .good2 .ensures, (h .hold .ensures .1, rw (p .record-part .ensures) at (r .read .ensures .1)))
 
 pub l4-spec : {M : Type 1} → statement M
 l4-spec =
@@ -173,6 +182,7 @@ l4-spec =
     returns-2
     enum-told
     hold-requires
+    record-part-requires
     read-requires
     good-requires
     same-length-4

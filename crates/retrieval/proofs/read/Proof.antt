@@ -1,7 +1,6 @@
--- `read` meets its contract: a record that is there has the file's width, so the named fields are written.
+-- `read` meets its contract: a record has the file's width, so the named fields are written.
 -- Assumes nothing.
 use Prim.Native.Nat.{ℕ, _≤_}
-use native.Mathlib.Omega.{arith}
 use mathlib.Core.Path.{_≡_}
 use mathlib.Core.Bool.{true}
 use mathlib.Core.List.{List}
@@ -11,14 +10,9 @@ use borrow.Author.Tests.{le-leb}
 use Rattle.definition.specs.declared.File.{File}
 use Rattle.elements.specs.Elements.{length-needed}
 use Rattle.records.specs.Records.{record-length}
-use Rattle.store.specs.Store.{shown}
-use Rattle.store.specs.Laws.{shown-length}
 use Rattle.fields.specs.Fields.{fits}
 use Rattle.retrieval.proofs.read.Statement.{statement}
 use Rattle.retrieval.proofs.read.Tie as tie
-
-record-part-requires : tie.Need-record-part-requires
-record-part-requires c κs = search needs
 
 read-fields-requires : tie.Need-read-fields-requires
 read-fields-requires c κs = search needs
@@ -33,13 +27,9 @@ written f format buffer content room whole = rw (le-leb _ _ room, le-leb _ _ who
 returns : tie.Need-returns
 returns c =
     let r = c .before .before in
-    let p = r .before .before in
-    let s = p .before .before .before .before in
+    let s = r .before .before .before .before .before in
     let a = s .args in
-    let whole : record-length (a .f) ≤ length (shown (a .f) (a .part .now) (a .isn)) = omega (arith, shown-length (a .f) (a .part .now) (a .isn) (s .pre .0)) in
-    let all = written (a .f) (a .format .now) (a .buffer .now) (shown (a .f) (a .part .now) (a .isn)) (s .pre .1) whole in
-    (rw (p .record-part .ensures, all) at (r .read-fields .ensures .0), rw (p .record-part .ensures) at (r .read-fields .ensures .1))
+    (rw (written (a .f) (a .format .now) (a .buffer .now) (a .content .now) (s .pre .1) (s .pre .0)) at (r .read-fields .ensures .0), r .read-fields .ensures .1)
 
 pub read-spec : {M : Type 1} → statement M
-read-spec =
-    tie.close (tie.spec record-part-requires read-fields-requires same-length returns)
+read-spec = tie.close (tie.spec read-fields-requires same-length returns)
