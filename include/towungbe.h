@@ -6,6 +6,7 @@
  *   1. Ask towungbe_store_size and towungbe_image_size how long the buffers must be, and get them.
  *   2. Call towungbe_set_up once.
  *   3. Call towungbe_call for each call of a user.
+ *   4. Where a whole record is wanted as ended transactions left it, ask towungbe_committed_place where it lies.
  *
  * The library allocates nothing, keeps nothing of its own and calls nothing but memcpy and memset: all that it knows is in
  * the state and in the three buffers that you lend to each call: store, hold queue and images. Give it the same ones each
@@ -19,7 +20,8 @@
  *     aligned for its type. A length may be 0; its pointer must then still not be null.
  *   - Buffers that overlap each other, the state or the block. Buffers that are only read (table, format) may be the same,
  *     but may not overlap one that is written.
- *   - Two threads in calls with the same state or buffers at once. Use a lock. Threads with a nucleus each need none.
+ *   - Two threads in calls with the same state or buffers at once. Use a lock. Threads with a nucleus each need none, and
+ *     towungbe_committed_place, which only reads, needs one only against calls; hold it as long as you read the record.
  *   - A bool that is neither 0 nor 1 (by memcpy, a union, or a file that was read into the state or the queue).
  *   - Too little stack. A call takes some 40 kilobytes of it; let a thread have 64 or more.
  *
@@ -68,7 +70,7 @@ enum {
     TOWUNGBE_QUEUE_FULL = 70,       /* a new hold is needed, and the hold queue is full */
     TOWUNGBE_USER_INVALID = 72,     /* the user is not 1 to 32 */
     TOWUNGBE_NO_FREE_ISN = 75,      /* N1 finds no ISN without a record and without a holder */
-    TOWUNGBE_ISN_INVALID = 113,     /* the ISN is 0 or above the highest, or has no record (N2: has one already) */
+    TOWUNGBE_ISN_INVALID = 113,     /* the ISN is 0 or above the highest, or has no record (L1 with C: ended transactions left none; N2: has one already) */
     TOWUNGBE_NOT_HELD = 144,        /* the user does not hold the ISN */
     TOWUNGBE_HELD_BY_ANOTHER = 145, /* another user holds the ISN */
     TOWUNGBE_CHANGED = 146,         /* RI of a record that the user has changed: ET or BT ends the transaction */
@@ -147,7 +149,7 @@ typedef struct {
 /* A call: you fill in the first part; the call fills in the second, whatever its response, and leaves the first. */
 typedef struct {
     uint8_t command[2]; /* "HI", "RI", "L1", "L4", "A1", "E1", "N1", "N2", "ET", "BT", "RE", "OP", "CL" or "PE"; no zero byte after */
-    uint8_t option;     /* ' ', or 'I' (L1, L4), 'H' (A1, E1), 'A' (OP); 0 is no option */
+    uint8_t option;     /* ' ', or 'I' (L1, L4), 'C' (L1), 'H' (A1, E1), 'A' (OP); 0 is no option */
     uint8_t user;       /* 1 to 32 */
     uint8_t file;       /* the file's number */
     uint16_t isn;       /* the record's number in its file; for OP the hold limit, 0 for 64 */
@@ -212,6 +214,45 @@ uint32_t towungbe_call(towungbe_state *state, towungbe_block *block, size_t capa
                        uint8_t *images, size_t images_length,
                        const uint8_t *format, size_t format_length,
                        uint8_t *record, size_t record_length);
+
+/*
+ * Where a whole record lies, as ended transactions left it. A record that somebody has changed and not ended lies in the
+ * images, every other one in the store.
+ */
+typedef struct {
+    size_t start;  /* its first byte in the images or in the store */
+    size_t length; /* the file's fields together; 0 where there is no record, and then all is 0 */
+    bool imaged;   /* it lies in the images */
+} towungbe_place;
+
+/*
+ * Says where the record lies that L1 with option 'C' reads, so that it can be had without a copy. It is no call: it has no
+ * user and no clock, backs nobody out and changes nothing but *place.
+ *
+ * The length is 0 where 'C' would be answered 11, 12, 17 or 113: short buffers, a state that is not well made, a file that
+ * is not defined, an ISN that is 0 or above the highest, and no record: none in the store, or one that was added by a
+ * transaction that has not ended. The place is good until the next call on the nucleus: any call may change or move the
+ * bytes, whatever it answers.
+ *
+ *   state, capacity, store, queue, images
+ *             as for calls
+ *   file, isn the file's number and the record's in it
+ *   place     where to put the answer. What it has is not looked at, but begin with {0, 0, false}: a bool that is lent is one.
+ */
+void towungbe_committed_place(const towungbe_state *state, size_t capacity, uint8_t file, uint16_t isn,
+                              const uint8_t *store, size_t store_length,
+                              const towungbe_entry *queue, size_t queue_length,
+                              const uint8_t *images, size_t images_length,
+                              towungbe_place *place);
+
+/*
+ * The record at a place of these buffers: place->length bytes, the fields in the order of the table. The pointer is never
+ * null; where there is no record it points to no bytes.
+ */
+static inline const uint8_t *towungbe_record_at(const towungbe_place *place, const uint8_t *store, const uint8_t *images)
+{
+    return (place->imaged ? images : store) + place->start;
+}
 
 #ifdef __cplusplus
 }

@@ -1,5 +1,5 @@
 //! Calls aimed at single rules by what a well made nucleus has: entries to release, values that are taken, records to
-//! change, ET data. Calls that look at nothing meet such rules rarely.
+//! change or to read as they were, ET data. Calls that look at nothing meet such rules rarely.
 
 use crate::definition::File;
 use crate::fields;
@@ -15,7 +15,7 @@ const USERS: std::ops::RangeInclusive<u8> = 1..=4;
 type Aim = fn(&mut Random, &Machine) -> Option<ListCall>;
 
 /// Each aim as often as it is tried; some find little to aim at.
-const AIMS: [(usize, Aim); 17] = [
+const AIMS: [(usize, Aim); 18] = [
     (12, hold_more),
     (4, hold_past_limit),
     (16, release_one),
@@ -28,18 +28,22 @@ const AIMS: [(usize, Aim); 17] = [
     (16, leave_doubled),
     (1, name_twice_beside_unknown),
     (8, name_nothing),
-    (8, leave_unstored),
+    (14, leave_unstored),
     (3, read_et_data),
     (10, end_at_last_sequence),
     (6, set_ready),
     (8, end_ready),
+    (10, read_committed),
 ];
 
 /// What there is rarely something for, so that it is looked for first, each once in so many times.
-const RARE: [(u64, Aim); 3] = [
-    (3, take_unstored),
+const RARE: [(u64, Aim); 6] = [
     (2, take_from_image),
+    (3, take_unstored),
     (3, call_ready_and_barred),
+    (4, read_behind_back_out),
+    (6, read_by_access_only),
+    (6, read_image),
 ];
 
 /// A call aimed at one of the rules; none where the nucleus had nothing for a few of them.
@@ -535,4 +539,107 @@ fn end_ready(random: &mut Random, machine: &Machine) -> Option<ListCall> {
         record: random.bytes(length),
         ..without_buffers(call_at(machine, command, user, (0, 0)))
     })
+}
+
+/// L1 with option `C` of an ISN that somebody holds unchanged, with a record if any, or added; where nobody does, of any.
+/// Rarely the file or the ISN is none, or the record buffer too short.
+fn read_committed(random: &mut Random, machine: &Machine) -> Option<ListCall> {
+    let records = records(machine);
+    let held = match random.once_in(3) {
+        true => places_of(machine, |entry| entry.changed && !entry.existed),
+        false => preferred(places_of(machine, |entry| !entry.changed), |place| {
+            records.contains(place)
+        }),
+    };
+    let place = match random.pick_any(&held) {
+        Some(place) => place,
+        None => random.pick_any(&places(machine))?,
+    };
+    let mut list_call = committed_reading(random, machine, place)?;
+    match random.below(12) {
+        0 => list_call.call.isn = random.pick(&[0, file(machine, place.0).max_isn + 1]),
+        1 => list_call.call.file = random.pick(&[0, 17]),
+        2 => drop(list_call.record.pop()),
+        _ => {}
+    }
+    Some(list_call)
+}
+
+/// The same of an ISN that is changed and had a record before, which is in an image; of an emptied one, if any, every
+/// second time.
+fn read_image(random: &mut Random, machine: &Machine) -> Option<ListCall> {
+    let imaged = places_of(machine, |entry| entry.changed && entry.existed);
+    let records = records(machine);
+    let imaged = match random.once_in(2) {
+        true => preferred(imaged, |place| !records.contains(place)),
+        false => imaged,
+    };
+    let place = random.pick_any(&imaged)?;
+    committed_reading(random, machine, place)
+}
+
+/// The same of an ISN that was changed by one whom the clock backs out before the record is looked at.
+fn read_behind_back_out(random: &mut Random, machine: &Machine) -> Option<ListCall> {
+    let clock = machine.state.clock;
+    let late = places_of(machine, |entry| {
+        entry.changed && user(machine, entry.user).is_late(clock)
+    });
+    let place = random.pick_any(&late)?;
+    committed_reading(random, machine, place)
+}
+
+/// The same by an access-only user, of an ISN where there is something to read.
+fn read_by_access_only(random: &mut Random, machine: &Machine) -> Option<ListCall> {
+    let user = somebody(random, |number| {
+        let user = user(machine, number);
+        user.session && user.access_only && !user.overdue && !user.ready
+    })?;
+    let mut there = places(machine);
+    there.retain(|(index, isn)| {
+        let number = file(machine, *index).number;
+        !machine.committed(number, *isn).is_empty()
+    });
+    let place = random.pick_any(&there)?;
+    Some(committed_reading_by(random, machine, user, place))
+}
+
+/// The ISNs of the entries that are so.
+fn places_of(machine: &Machine, so: impl Fn(&Entry) -> bool) -> Vec<Place> {
+    let place = |entry: &Entry| {
+        let index = machine.state.definition.file_index(entry.file)?;
+        Some((index, entry.isn))
+    };
+    let entries = machine.entries().iter().filter(|entry| so(entry));
+    entries.filter_map(place).collect()
+}
+
+/// L1 with option `C` by the holder of the ISN, by one who is ready, or by another user.
+fn committed_reading(random: &mut Random, machine: &Machine, place: Place) -> Option<ListCall> {
+    let chosen = match random.below(8) {
+        0 | 1 => holder(machine, place),
+        2 => somebody(random, |number| user(machine, number).ready),
+        _ => None,
+    };
+    let user = match chosen {
+        Some(user) => user,
+        None => somebody(random, |number| is_able(machine, number))?,
+    };
+    Some(committed_reading_by(random, machine, user, place))
+}
+
+/// L1 with option `C` of all fields, or of none.
+fn committed_reading_by(
+    random: &mut Random,
+    machine: &Machine,
+    user: u8,
+    place: Place,
+) -> ListCall {
+    let call = with_option(b'C', call_at(machine, b"L1", user, place));
+    let file = file(machine, place.0);
+    let elements = match random.once_in(8) {
+        true => Vec::new(),
+        false => all_fields(file),
+    };
+    let length = fields::named_length(file, &elements) + random.below(2) as usize;
+    naming(call, file, &elements, vec![0xEE; length])
 }

@@ -290,7 +290,7 @@ pub fn call(random: &mut Random, machine: &Machine) -> ListCall {
     };
     let call = Call {
         command: random.pick(&state::codes()),
-        option: random.pick(b"      IHA"),
+        option: random.pick(b"      IHAC"),
         user: random.between(1, 6) as u8,
         file: number,
         isn: random.below(6) as u16,

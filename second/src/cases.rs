@@ -3,13 +3,15 @@
 use crate::compare;
 use crate::definition::File;
 use crate::fields;
+use crate::hold;
 use crate::machine::Machine;
 use crate::random::ListCall;
+use crate::responses;
 use crate::state::{self, Answer, Call, User};
 use crate::store;
 
 /// The cases of single rules.
-const RULES: [&str; 42] = [
+const RULES: [&str; 59] = [
     "RI of one ISN",
     "RI of one ISN beside an unchanged entry",
     "RI of one ISN beside a changed entry",
@@ -52,18 +54,47 @@ const RULES: [&str; 42] = [
     "BT of a ready user",
     "ready past the time limit",
     "ready in no transaction",
+    "C of a changed record",
+    "C of an emptied record",
+    "C of an added record",
+    "C of a record that was added and emptied",
+    "C of one's own change",
+    "C of an image shorter than the greatest",
+    "C of an unchanged hold",
+    "C of an unchanged hold, no record",
+    "C of a record that nobody holds",
+    "C of no record",
+    "C of no fields",
+    "C of an access-only user",
+    "C of a ready user",
+    "C of an undefined file",
+    "C of an ISN out of range",
+    "C with a short record buffer",
+    "C behind the back-out of a change",
+];
+
+/// The cases of a committed record as a part.
+const PARTS: [&str; 8] = [
+    "part of the images",
+    "part of the store",
+    "no part, added",
+    "no part, no record",
+    "no part, ISN out of range",
+    "no part, undefined file",
+    "no part, 11",
+    "no part, 12",
 ];
 
 /// The options that are named for some command, and the blank.
-const OPTIONS: [u8; 4] = *b" IHA";
+const OPTIONS: [u8; 5] = *b" IHAC";
 
 /// The half bytes that are signs.
 const SIGNS: std::ops::RangeInclusive<u8> = 0xA..=0xF;
 
-/// All cases: those of single rules, each packed sign of a zero and of another number, and each command with each
-/// option.
+/// All cases: those of single rules and of parts, each packed sign of a zero and of another number, and each command with
+/// each option.
 pub fn all() -> Vec<String> {
-    let mut all = RULES.map(str::to_string).to_vec();
+    let mut all = strings(&[&RULES[..], &PARTS].concat());
     for sign in SIGNS {
         all.extend([true, false].map(|is_zero| sign_case(is_zero, sign)));
     }
@@ -88,6 +119,33 @@ fn sign_case(is_zero: bool, sign: u8) -> String {
         true => format!("packed zero with {sign:X}"),
         false => format!("packed number with {sign:X}"),
     }
+}
+
+/// The case that a committed record as a part is.
+pub fn of_part(machine: &Machine, file: u8, isn: u16) -> String {
+    let (state, definition) = (&machine.state, &machine.state.definition);
+    let (store, queue, images) = (&machine.store, &machine.queue, &machine.images);
+    let usable = responses::usable_rows(state, machine.capacity, store, queue, images);
+    let max_isn = definition
+        .file_index(file)
+        .map(|index| definition.files[index].max_isn);
+    let case = match (usable, max_isn) {
+        (Err(response), _) => return format!("no part, {response}"),
+        (_, None) => "no part, undefined file",
+        (_, Some(max_isn)) if !(1..=max_isn).contains(&isn) => "no part, ISN out of range",
+        _ => {
+            let place = hold::position(machine.entries(), file, isn);
+            let entry = place.map(|place| machine.entries()[place]);
+            let changed = entry.is_some_and(|entry| entry.changed);
+            match (changed, machine.committed(file, isn)) {
+                (true, []) => "no part, added",
+                (true, _) => "part of the images",
+                (false, []) => "no part, no record",
+                (false, _) => "part of the store",
+            }
+        }
+    };
+    case.to_string()
 }
 
 /// The cases that a call was, by the nucleus before and after it and its answer.
@@ -117,6 +175,7 @@ pub fn of(before: &Machine, after: &Machine, list_call: &ListCall, answer: &Answ
     }));
     cases.extend(strings(&ready_cases(before, after, call, answer)));
     cases.extend(no_fields_case(list_call, answer));
+    cases.extend(strings(&committed_cases(before, after, list_call, answer)));
     if let (b"A1" | b"N1" | b"N2", 0 | 55) = (&call.command, answer.response) {
         cases.extend(packed_cases(after, list_call, answer));
     }
@@ -365,4 +424,74 @@ fn unready_case(before: &Machine) -> Vec<&'static str> {
         true => vec!["ready in no transaction"],
         false => Vec::new(),
     }
+}
+
+/// What L1 with option `C` met: by the caller and the entry of the ISN, as the clock left them.
+fn committed_cases(
+    before: &Machine,
+    after: &Machine,
+    list_call: &ListCall,
+    answer: &Answer,
+) -> Vec<&'static str> {
+    let call = &list_call.call;
+    if (&call.command, call.option) != (b"L1", b'C') {
+        return Vec::new();
+    }
+    let definition = &after.state.definition;
+    let file = definition
+        .file_index(call.file)
+        .map(|index| &definition.files[index]);
+    match (answer.response, file) {
+        (211, _) => vec!["C of a ready user"],
+        (17, _) => vec!["C of an undefined file"],
+        (53, _) => vec!["C with a short record buffer"],
+        (0 | 113, Some(file)) if (1..=file.max_isn).contains(&call.isn) => {
+            shown_cases(before, after, list_call, answer)
+        }
+        (113, _) => vec!["C of an ISN out of range"],
+        _ => Vec::new(),
+    }
+}
+
+/// A `C` reading that looked at the record.
+fn shown_cases(
+    before: &Machine,
+    after: &Machine,
+    list_call: &ListCall,
+    answer: &Answer,
+) -> Vec<&'static str> {
+    let call = &list_call.call;
+    let place = (call.file, call.isn);
+    let entry_in = |machine: &Machine| {
+        let mut entries = machine.entries().iter();
+        entries
+            .find(|entry| (entry.file, entry.isn) == place)
+            .copied()
+    };
+    let in_store = after.records().contains_key(&place);
+    let (entry, good) = (entry_in(after), answer.response == 0);
+    let mut cases = match entry.map(|entry| (entry.changed, entry.existed)) {
+        Some((true, true)) if in_store => vec!["C of a changed record"],
+        Some((true, true)) => vec!["C of an emptied record"],
+        Some((true, false)) if in_store => vec!["C of an added record"],
+        Some((true, false)) => vec!["C of a record that was added and emptied"],
+        Some(_) if good => vec!["C of an unchanged hold"],
+        Some(_) => vec!["C of an unchanged hold, no record"],
+        None if good => vec!["C of a record that nobody holds"],
+        None => vec!["C of no record"],
+    };
+    let changed = entry.filter(|entry| entry.changed);
+    let own = changed.is_some_and(|entry| entry.user == call.user);
+    let backed_out = entry.is_none() && entry_in(before).is_some_and(|entry| entry.changed);
+    let caller = &after.state.users[usize::from(call.user) - 1];
+    let definition = &after.state.definition;
+    let shorter = after.committed(call.file, call.isn).len() < definition.greatest_record_length();
+    cases.extend(own.then_some("C of one's own change"));
+    cases.extend(
+        (changed.is_some() && good && shorter).then_some("C of an image shorter than the greatest"),
+    );
+    cases.extend((good && list_call.format == b".").then_some("C of no fields"));
+    cases.extend((good && caller.access_only).then_some("C of an access-only user"));
+    cases.extend(backed_out.then_some("C behind the back-out of a change"));
+    cases
 }

@@ -3,7 +3,7 @@
 use crate::fields;
 use crate::journal::{Journal, Records};
 use crate::machine::Machine;
-use crate::random::{List, ListCall};
+use crate::random::{self, List, ListCall};
 use crate::state::{self, Answer, Call, User};
 use std::collections::BTreeMap;
 use std::ops::Range;
@@ -93,7 +93,84 @@ pub fn check_list(list: &List, counts: &mut Counts) -> Result<(), String> {
         *counts.entry(label(&machine, call, &answer)).or_default() += 1;
         compare(&machine, &journal).map_err(at)?;
     }
-    check_back_outs(&machine, &journal).map_err(|error| format!("seed {}: {error}", list.seed))
+    let at_end = |error: String| format!("seed {}: {error}", list.seed);
+    check_back_outs(&machine, &journal).map_err(at_end)?;
+    check_committed(&machine).map_err(at_end)
+}
+
+/// "For every list of calls, a `C` reading is what backing all users out at that moment would leave", in several orders of
+/// the back-outs.
+pub fn check_committed(machine: &Machine) -> Result<(), String> {
+    let mut backed_out = Vec::new();
+    for order in orders(&machine.in_transaction()) {
+        let mut machine = machine.clone();
+        for user in &order {
+            machine.call(&bt_of(*user), &[], &mut []);
+        }
+        backed_out.push((order, machine.records()));
+    }
+    for reader in readers(machine) {
+        let found = committed_records(machine, reader)?;
+        let differs = |(_, expected): &&(Vec<u8>, Records)| found != *expected;
+        if let Some((order, expected)) = backed_out.iter().find(differs) {
+            return Err(format!(
+                "user {reader} reads {found:02X?}, and BT of {order:?} leaves {expected:02X?}"
+            ));
+        }
+    }
+    Ok(())
+}
+
+/// A user whom no random list has.
+const STRANGER: u8 = 31;
+
+/// Who reads: a stranger, and those in a transaction who are not ready.
+fn readers(machine: &Machine) -> Vec<u8> {
+    let mut readers = machine.in_transaction();
+    readers.retain(|user| !machine.state.users[usize::from(*user) - 1].ready);
+    readers.push(STRANGER);
+    readers
+}
+
+/// What `C` readings of a user show at every ISN. The error: one is answered otherwise than by a record or 113, or the part
+/// is another, or something but the reader's session is changed.
+fn committed_records(machine: &Machine, reader: u8) -> Result<Records, String> {
+    let mut records = Records::new();
+    let mut reading = machine.clone();
+    for file in machine.state.definition.used_files() {
+        let fields: Vec<usize> = (0..file.used_fields().len()).collect();
+        let format = random::format_of(file, &fields);
+        for isn in 0..=file.max_isn + 1 {
+            let mut content = vec![0; file.record_length()];
+            let call = committed_reading(reader, file.number, isn);
+            let answer = reading.call(&call, &format, &mut content);
+            let read = &content[..answer.quantity];
+            if !matches!(answer.response, 0 | 113) || read != machine.committed(file.number, isn) {
+                return Err(format!("{call:?} answers {answer:?} with {read:02X?}"));
+            }
+            if answer.response == 0 {
+                records.insert((file.number, isn), content);
+            }
+        }
+    }
+    let mut expected = machine.clone();
+    open_session(&mut expected.state.users[usize::from(reader) - 1]);
+    match reading == expected {
+        true => Ok(records),
+        false => Err(format!("readings of user {reader} change something")),
+    }
+}
+
+fn committed_reading(user: u8, file: u8, isn: u16) -> Call {
+    Call {
+        command: *b"L1",
+        option: b'C',
+        user,
+        file,
+        isn,
+        limit: 0,
+        clock: 0,
+    }
 }
 
 pub fn label(machine: &Machine, call: &Call, answer: &Answer) -> String {

@@ -1,5 +1,6 @@
 //! One call at work: the state, everything lent, and the call itself, with the lookups that rows and commands share.
 
+use crate::committed;
 use crate::definition::File;
 use crate::fields;
 use crate::hold::{self, Entry};
@@ -52,6 +53,18 @@ impl Context<'_> {
             Some(file) => store::has_record(&self.state.definition, self.store, file, isn),
             None => false,
         }
+    }
+
+    /// The record that L1 or L4 shows: with option `C` as ended transactions left it, otherwise as it is in the store.
+    pub fn shown(&self, isn: u16) -> Option<&[u8]> {
+        let definition = &self.state.definition;
+        let file = self.file_index()?;
+        if self.call.option == b'C' {
+            let entries = self.entries();
+            return committed::record(definition, entries, self.store, self.images, file, isn);
+        }
+        self.has_record(isn)
+            .then(|| store::record(definition, self.store, file, isn))
     }
 
     pub fn holder(&self, isn: u16) -> Option<u8> {

@@ -9,6 +9,7 @@ pub mod aimed;
 pub mod any_state;
 pub mod arguments;
 pub mod cases;
+pub mod committed;
 pub mod compare;
 pub mod context;
 pub mod definition;

@@ -1,5 +1,6 @@
 //! A nucleus that owns the buffers it lends, for programs and tests.
 
+use crate::committed;
 use crate::definition;
 use crate::hold::Entry;
 use crate::journal::Records;
@@ -66,6 +67,19 @@ impl Machine {
             call,
             format,
             record,
+        )
+    }
+
+    /// The record at an ISN as ended transactions left it, uncopied; no bytes where there is none.
+    pub fn committed(&self, file: u8, isn: u16) -> &[u8] {
+        committed::part(
+            &self.state,
+            self.capacity,
+            file,
+            isn,
+            &self.store,
+            &self.queue,
+            &self.images,
         )
     }
 

@@ -181,9 +181,11 @@ fn hold_and_read(context: &mut Context) -> Answer {
 /// "Quantity: bytes written, at the front of the record buffer."
 fn read_isn(context: &mut Context, isn: u16) -> Answer {
     let (index, elements) = file_and_elements(context);
-    let definition = &context.state.definition;
-    let content = store::record(definition, context.store, index, isn);
-    let values = fields::read_named(&definition.files[index], &elements, content);
+    let Some(content) = context.shown(isn) else {
+        unreachable!("the row of 113 holds");
+    };
+    let file = &context.state.definition.files[index];
+    let values = fields::read_named(file, &elements, content);
     context.record[..values.len()].copy_from_slice(&values);
     Answer {
         isn,

@@ -77,13 +77,14 @@ pub struct List {
     pub calls: Vec<ListCall>,
 }
 
-/// How many calls of a list have a command and an option by turn. In 24 lists with seeds in a row each command comes
+/// How many calls of a list have a command and an option by turn. In 21 lists with seeds in a row each command comes
 /// with each option.
-const TURNS: u64 = 3;
+const TURNS: u64 = 4;
 
 /// The options that are named for some command, the blank, and bytes that are no option.
-fn options(random: &mut Random) -> [u8; 5] {
-    [b' ', b'I', b'H', b'A', random.pick(&[0, b'h', b'X', b'R'])]
+fn options(random: &mut Random) -> [u8; 6] {
+    let other = random.pick(&[0, b'h', b'X', b'R', b'c']);
+    [b' ', b'I', b'H', b'A', b'C', other]
 }
 
 /// The list of a seed.
@@ -134,7 +135,8 @@ fn add_calls(random: &mut Random, list: &mut List) {
         if let Some(turn) = turn_at(place, length) {
             let turn = list.seed.wrapping_mul(TURNS).wrapping_add(turn) as usize;
             list_call.call.command = codes[turn % codes.len()];
-            list_call.call.option = options(random)[turn % 5];
+            let options = options(random);
+            list_call.call.option = options[turn / codes.len() % options.len()];
         }
         let mut record = list_call.record.clone();
         machine.call(&list_call.call, &list_call.format, &mut record);
@@ -271,11 +273,12 @@ fn command(random: &mut Random) -> [u8; 2] {
 
 fn option(random: &mut Random, command: [u8; 2]) -> u8 {
     if random.once_in(50) {
-        return random.pick(&[0, b'H', b'I', b'A', b'h', b'X']);
+        return random.pick(&[0, b'H', b'I', b'A', b'C', b'h', b'X']);
     }
     match &command {
         b"A1" | b"E1" => random.pick(b"HH "),
-        b"L1" | b"L4" => random.pick(b"I  "),
+        b"L1" => random.pick(b"ICC  "),
+        b"L4" => random.pick(b"I  "),
         b"OP" => random.pick(b"A  "),
         _ => b' ',
     }

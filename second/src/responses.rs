@@ -57,16 +57,15 @@ pub fn set_up_rows(
     Ok(definition)
 }
 
-/// The rows before the clock: 11, 12, 22, 72. Answers the command. "Where the kept table is invalid these sizes mean
-/// nothing, and 12 is given before 11."
-pub fn rows_before_clock(
+/// The rows of what is kept and lent: 11, 12. "Where the kept table is invalid these sizes mean nothing, and 12 is given
+/// before 11."
+pub fn usable_rows(
     state: &State,
     capacity: u32,
     store: &[u8],
     queue: &[Entry],
     images: &[u8],
-    call: &Call,
-) -> Result<Command, u16> {
+) -> Result<(), u16> {
     if !definition::is_valid(&state.definition) {
         return Err(12);
     }
@@ -76,6 +75,19 @@ pub fn rows_before_clock(
     if !state::is_well_made(state, capacity, queue) {
         return Err(12);
     }
+    Ok(())
+}
+
+/// The rows before the clock: 11, 12, 22, 72. Answers the command.
+pub fn rows_before_clock(
+    state: &State,
+    capacity: u32,
+    store: &[u8],
+    queue: &[Entry],
+    images: &[u8],
+    call: &Call,
+) -> Result<Command, u16> {
+    usable_rows(state, capacity, store, queue, images)?;
     let Some(command) = Command::from_code(call.command) else {
         return Err(22);
     };
@@ -204,13 +216,14 @@ fn held_by_another(context: &Context) -> bool {
     looks_at_holds && context.holder(isn).is_some() && !context.held_by_caller(isn)
 }
 
-/// 113: "no record (L1, L4, A1, E1), or one there (N2)".
+/// 113: "no record (L1, L4, A1, E1), or one there (N2)"; for option `C` no record as ended transactions left it.
 fn record_missing_or_there(context: &Context) -> bool {
     let Some(isn) = context.target_isn() else {
         return false;
     };
     match context.command {
-        Command::L1 | Command::L4 | Command::A1 | Command::E1 => !context.has_record(isn),
+        Command::L1 | Command::L4 => context.shown(isn).is_none(),
+        Command::A1 | Command::E1 => !context.has_record(isn),
         Command::N2 => context.has_record(isn),
         _ => false,
     }

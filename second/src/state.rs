@@ -61,13 +61,14 @@ impl Command {
             .map(|(command, _)| *command)
     }
 
-    /// Blank is good for every command; `I`, `H` and `A` where the paper names them.
+    /// Blank is good for every command; `I`, `H`, `A` and `C` where the papers name them.
     pub fn has_option(self, option: u8) -> bool {
         match option {
             b' ' => true,
             b'I' => matches!(self, Command::L1 | Command::L4),
             b'H' => matches!(self, Command::A1 | Command::E1),
             b'A' => self == Command::Op,
+            b'C' => self == Command::L1,
             _ => false,
         }
     }

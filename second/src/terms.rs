@@ -128,13 +128,18 @@ pub fn lent(store: &[u8], queue: &[Entry], images: &[u8]) -> String {
     format!("{store}\n  {}\n  {images}", list(queue, entry))
 }
 
-/// What calls answered and what they left, but for what is free and for sizes that are too short.
-pub fn outcome(answers: &[(Answer, Vec<u8>)], machine: &Machine) -> String {
+/// Files' numbers and ISNs of which the committed record is asked.
+pub fn wanted(wanted: &[(u8, u16)]) -> String {
+    list(wanted, |(file, isn)| format!("wanted {file} {isn}"))
+}
+
+/// What calls answered and what they left, but for what is free and for sizes that are too short; and parts.
+pub fn outcome(answers: &[(Answer, Vec<u8>)], machine: &Machine, parts: &[Vec<u8>]) -> String {
     let state = &machine.state;
     let queue = machine.capacity as usize;
     let images = queue.saturating_mul(state.definition.greatest_record_length());
     format!(
-        "outcome {} {} {} {} {} {} {} {} {}",
+        "outcome {} {} {} {} {} {} {} {} {} {}",
         list(answers, |(answer, record)| answered(answer, record)),
         state.clock,
         list(&state.users.map(seen_user), user),
@@ -147,7 +152,8 @@ pub fn outcome(answers: &[(Answer, Vec<u8>)], machine: &Machine) -> String {
             bytes(image)
         )),
         list(machine.queue.get(queue..).unwrap_or_default(), entry),
-        bytes(machine.images.get(images..).unwrap_or_default())
+        bytes(machine.images.get(images..).unwrap_or_default()),
+        list(parts, |part| bytes(part))
     )
 }
 

@@ -52,7 +52,7 @@ macro_rules! options {
 options! {
     hi "HI", b"";
     ri "RI", b"";
-    l1 "L1", b"I";
+    l1 "L1", b"IC";
     l4 "L4", b"I";
     a1 "A1", b"H";
     e1 "E1", b"H";

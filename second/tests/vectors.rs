@@ -1,4 +1,4 @@
-//! The examples of the Command Reference and of PE, run.
+//! The examples of the Command Reference, of PE and of L1's option `C`, run.
 
 use second::vectors::{read, run};
 
@@ -29,6 +29,11 @@ fn command_reference() {
 #[test]
 fn ready() {
     check_file("ready.txt", 8);
+}
+
+#[test]
+fn committed() {
+    check_file("committed.txt", 11);
 }
 
 const EXAMPLE: &str = "

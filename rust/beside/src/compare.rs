@@ -22,7 +22,7 @@ pub struct Both<'a> {
 
 type Check = (fn(&Both) -> bool, &'static str);
 
-const CHECKS: [Check; 9] = [
+const CHECKS: [Check; 10] = [
     (answers_equal, "the answers differ"),
     (record_buffers_equal, "the record buffers differ"),
     (guards_stand, "something behind a buffer is written"),
@@ -32,6 +32,7 @@ const CHECKS: [Check; 9] = [
     (stores_equal, "the stores differ"),
     (entries_equal, "the entries in use or their images differ"),
     (left_as_it_was, "more is changed than the response allows"),
+    (committed_places_equal, "a committed record lies elsewhere"),
 ];
 
 /// The error says what differs.
@@ -180,4 +181,21 @@ fn past_sizes_stay(before: &Twin, after: &Twin, definition: &Definition) -> bool
         .saturating_mul(definition.greatest_record_length());
     before.queue.items().get(before.capacity..) == after.queue.items().get(before.capacity..)
         && before.images.items().get(images..) == after.images.items().get(images..)
+}
+
+/// Where committed records lie: of the call's ISN, of the one answered, and of the first that are changed or held.
+fn committed_places_equal(both: &Both) -> bool {
+    let entries = both.after.queue.iter();
+    let used = entries.take(both.after.state.entries as usize);
+    let places = |changed| {
+        let entries = used.clone().filter(move |entry| entry.changed == changed);
+        entries.map(|entry| (entry.file, entry.isn))
+    };
+    let of_call = [both.call.isn, both.answer.isn].map(|isn| (both.call.file, isn));
+    let mut asked = of_call.into_iter();
+    let mut held = places(true).take(2).chain(places(false).take(1));
+    let equal = |(file, isn): (u8, u16)| {
+        twin::committed_place(both.after, file, isn) == both.twin.committed_place(file, isn)
+    };
+    asked.all(equal) && held.all(equal)
 }

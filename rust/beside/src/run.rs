@@ -4,7 +4,7 @@ use crate::compare::{compare, Both};
 use crate::twin::{self, Twin};
 use second::any_state;
 use second::compare as second_compare;
-use second::definition::{self, Definition};
+use second::definition::{self, Definition, File};
 use second::machine::Machine;
 use second::nucleus;
 use second::random::{self, List, ListCall, Random};
@@ -21,6 +21,9 @@ const ANY: usize = 12;
 const AIMED: usize = 12;
 const UNKNOWN: usize = 2;
 const SET_UPS: usize = 4;
+
+/// So many ISNs of each file are read after a list.
+const FIRST_ISNS: u16 = 5;
 
 /// How often each response came, by the second implementation's labels, which tell the two rows of 113 apart.
 #[derive(Debug, Default)]
@@ -132,7 +135,40 @@ fn run_list(list: &List, counts: &mut Counts) -> Result<(), String> {
     for (place, list_call) in (1..).zip(&list.calls) {
         step(&mut machine, twin, list_call, counts).map_err(at("call", place))?;
     }
+    for (place, list_call) in (1..).zip(committed_readings(&machine)) {
+        step(&mut machine, twin, &list_call, counts).map_err(at("committed reading", place))?;
+    }
     Ok(())
+}
+
+/// L1 with option `C` of the first ISNs of each file, and of all that are held, by a user whom no list has.
+fn committed_readings(machine: &Machine) -> Vec<ListCall> {
+    let files = machine.state.definition.used_files();
+    let reading = |(file, isn): (&File, u16)| {
+        let fields: Vec<usize> = (0..file.used_fields().len()).collect();
+        let call = Call {
+            command: *b"L1",
+            option: b'C',
+            user: 31,
+            file: file.number,
+            isn,
+            ..re_of_user_1().call
+        };
+        ListCall {
+            call,
+            format: random::format_of(file, &fields),
+            record: vec![0xEE; file.record_length()],
+        }
+    };
+    let mut readings = Vec::new();
+    for file in files {
+        let first = 1..=file.max_isn.min(FIRST_ISNS);
+        let entries = machine.entries().iter();
+        let held = entries.filter(|entry| entry.file == file.number && entry.isn > FIRST_ISNS);
+        let isns = first.chain(held.map(|entry| entry.isn));
+        readings.extend(isns.map(|isn| reading((file, isn))));
+    }
+    readings
 }
 
 /// Sets the twin up by the library and compares with what the second implementation gave and left of the store.

@@ -122,6 +122,19 @@ impl Twin {
         }
     }
 
+    /// Where the committed record of an ISN lies.
+    pub fn committed_place(&self, file: u8, isn: u16) -> raw::Place {
+        raw::committed_place(
+            &self.state,
+            self.capacity,
+            file,
+            isn,
+            self.store.items(),
+            self.queue.items(),
+            self.images.items(),
+        )
+    }
+
     pub fn guards_stand(&self) -> bool {
         self.store.guards_stand() && self.queue.guards_stand() && self.images.guards_stand()
     }
@@ -160,6 +173,25 @@ fn wide(number: u32) -> usize {
     match number {
         u32::MAX => (1 << 32) + 1,
         _ => number as usize,
+    }
+}
+
+/// Where the second implementation's committed record of an ISN lies.
+pub fn committed_place(machine: &Machine, file: u8, isn: u16) -> raw::Place {
+    let record = machine.committed(file, isn);
+    if record.is_empty() {
+        return raw::Place::default();
+    }
+    let from = |buffer: &[u8]| (record.as_ptr() as usize).wrapping_sub(buffer.as_ptr() as usize);
+    let imaged = from(&machine.images) < machine.images.len();
+    let start = match imaged {
+        true => from(&machine.images),
+        false => from(&machine.store),
+    };
+    raw::Place {
+        start,
+        length: record.len(),
+        imaged,
     }
 }
 

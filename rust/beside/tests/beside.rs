@@ -172,6 +172,10 @@ const AFTER_GOOD: &[Tamper] = &[
         "more is changed",
     ),
     (|scene| scene.twin.images.lent()[8] = 7, "more is changed"),
+    (
+        |scene| scene.twin.capacity = 0,
+        "a committed record lies elsewhere",
+    ),
 ];
 
 #[test]

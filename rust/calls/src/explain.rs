@@ -60,6 +60,9 @@ fn isn_cause(table: &[u8], call: &Call) -> String {
             format!("The ISN is not 1 to {max_isn}, the file's highest.")
         }
         (_, b"N2") => "There is a record at the ISN already.".to_string(),
+        (_, b"L1") if call.option == b'C' => {
+            "Ended transactions left no record at the ISN.".to_string()
+        }
         _ => "There is no record at the ISN.".to_string(),
     }
 }

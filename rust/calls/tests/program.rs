@@ -11,6 +11,10 @@ const READY: &str = concat!(
     env!("CARGO_MANIFEST_DIR"),
     "/../../second/vectors/ready.txt"
 );
+const COMMITTED: &str = concat!(
+    env!("CARGO_MANIFEST_DIR"),
+    "/../../second/vectors/committed.txt"
+);
 const LISTS: &str = concat!(env!("CARGO_MANIFEST_DIR"), "/../../second/lists");
 
 /// Runs the program on a text.
@@ -86,7 +90,8 @@ fn prints_each_call_with_its_answer_and_why() {
     }
 }
 
-/// The Command Reference's vectors, those of PE, and the sources of the house call lists that have no bad input.
+/// The Command Reference's vectors, those of PE and of option `C`, and the sources of the house call lists that have no bad
+/// input.
 #[test]
 fn the_saved_lists_are_as_expected() {
     let sources = [
@@ -96,9 +101,10 @@ fn the_saved_lists_are_as_expected() {
         "going-round",
         "no-fields",
         "packed-signs",
+        "committed-reading",
         "command-reference-1",
     ];
-    let mut files = vec![VECTORS.to_string(), READY.to_string()];
+    let mut files = [VECTORS, READY, COMMITTED].map(String::from).to_vec();
     files.extend(sources.map(|name| format!("{LISTS}/{name}.txt")));
     let files: Vec<&str> = files.iter().map(String::as_str).collect();
     for implementation in [&["--check"][..], &["--check", "--second"]] {
@@ -223,11 +229,14 @@ fn says_why() {
     let cases = [
         ("XX", "22: The command is unknown."),
         ("HI option=I", "22: The option is none of HI's."),
+        ("L4 option=C", "22: The option is none of L4's."),
         ("HI isn=4", "113: The ISN is not 1 to 3, the file's highest."),
         ("L1 isn=1 format=RC.", "53: The record buffer is shorter than the named fields."),
         ("ET length=65", "53: ET brings more than 64 bytes."),
         ("ET text=a\ncall: RE", "53: The record buffer is shorter than the user's ET data."),
         ("L1 isn=1 format=RC. length=1", "113: There is no record at the ISN."),
+        ("N1 format=RC. text=1\ncall: L1 option=C isn=1 format=RC. length=1", "113: Ended transactions left no record at the ISN."),
+        ("L1 option=C isn=4 format=RC. length=1", "113: The ISN is not 1 to 3, the file's highest."),
         ("N1 format=RC. text=1\ncall: N2 isn=1 format=RC. text=2", "113: There is a record at the ISN already."),
         ("HI isn=1\ncall: HI isn=1 clock=901", "9: The user's transaction took longer than his time limit and was backed out."),
         ("HI isn=1\ncall: CL", "9: The user's transaction was backed out: it took longer than his time limit, or he called OP or CL before ending it."),

@@ -49,6 +49,8 @@ pub enum CommandOption {
     None,
     /// `I` of L1 and L4: the lowest ISN at or above the given one that has a record.
     Lowest,
+    /// `C` of L1: the record as ended transactions left it.
+    Committed,
     /// `H` of A1 and E1: takes the hold.
     Hold,
     /// `A` of OP: the user may only read.
@@ -60,6 +62,7 @@ impl CommandOption {
         match self {
             CommandOption::None => b' ',
             CommandOption::Lowest => b'I',
+            CommandOption::Committed => b'C',
             CommandOption::Hold => b'H',
             CommandOption::AccessOnly => b'A',
         }

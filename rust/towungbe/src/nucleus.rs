@@ -107,6 +107,49 @@ impl Nucleus {
         }
     }
 
+    /// The whole record at an ISN as ended transactions left it, which is what L1 with [`CommandOption::Committed`]
+    /// (`C`) reads, without a copy: the bytes lie in the images or in the store. No bytes where there is no such record.
+    ///
+    /// It is no call: it has no user and no clock, and changes nothing.
+    ///
+    /// ```
+    /// # use towungbe::{Call, Command, CommandOption, Nucleus, Response};
+    /// # let mut nucleus = Nucleus::new(b"\x01\x01\x00\x03\x02RC\x01AU\x00", 64)?;
+    /// let add = Call::new(Command::N1, 1).with_file(1);
+    /// nucleus.call(&add, b"RC.", &mut b"2".to_vec());
+    /// assert_eq!(nucleus.committed(1, 1), b"");
+    /// nucleus.call(&Call::new(Command::Et, 1), b"", &mut []);
+    /// assert_eq!(nucleus.committed(1, 1), b"2");
+    /// let change = Call::new(Command::A1, 1).with_option(CommandOption::Hold).with_file(1).with_isn(1);
+    /// nucleus.call(&change, b"RC.", &mut b"3".to_vec());
+    /// assert_eq!(nucleus.committed(1, 1), b"2");
+    /// # Ok::<(), Response>(())
+    /// ```
+    ///
+    /// While the record is in use no call can be made, for a call may change its bytes or move them:
+    ///
+    /// ```compile_fail,E0502
+    /// # use towungbe::{Call, Command, Nucleus, Response};
+    /// # let mut nucleus = Nucleus::new(b"\x01\x01\x00\x03\x02RC\x01AU\x00", 64)?;
+    /// let record = nucleus.committed(1, 1);
+    /// nucleus.call(&Call::new(Command::Et, 1), b"", &mut []);
+    /// println!("{record:?}");
+    /// # Ok::<(), Response>(())
+    /// ```
+    ///
+    /// [`CommandOption::Committed`]: crate::CommandOption::Committed
+    pub fn committed(&self, file: u8, isn: u16) -> &[u8] {
+        raw::committed(
+            &self.state,
+            self.capacity,
+            file,
+            isn,
+            &self.buffers.store,
+            &self.buffers.queue,
+            &self.buffers.images,
+        )
+    }
+
     /// The entries of the hold queue, oldest first.
     pub fn entries(&self) -> &[Entry] {
         let queue = &self.buffers.queue;

@@ -1,4 +1,4 @@
-//! The static library as it is: the types of include/towungbe.h and its four functions, made safe by references.
+//! The static library as it is: the types of include/towungbe.h and its five functions, made safe by references.
 //!
 //! Every function answers any input; a state that is not well made gets 12. [`Nucleus`](crate::Nucleus) is easier to use;
 //! this module is for callers who keep the buffers themselves.
@@ -116,6 +116,17 @@ pub struct Block {
     pub quantity: usize,
 }
 
+/// Where a whole record lies, as ended transactions left it. All is 0 where there is none.
+#[repr(C)]
+#[derive(Clone, Copy, Debug, Default, PartialEq, Eq)]
+pub struct Place {
+    /// Its first byte, in the images or in the store.
+    pub start: usize,
+    pub length: usize,
+    /// Whether it lies in the images.
+    pub imaged: bool,
+}
+
 impl Default for EtData {
     fn default() -> EtData {
         EtData {
@@ -134,7 +145,7 @@ pub struct Lent<'a> {
 }
 
 mod c {
-    use super::{Block, Entry, State};
+    use super::{Block, Entry, Place, State};
 
     // A slice passes as a pointer and a count.
     extern "C" {
@@ -165,6 +176,19 @@ mod c {
             record: *mut u8,
             record_length: usize,
         ) -> u32;
+        pub fn towungbe_committed_place(
+            state: *const State,
+            capacity: usize,
+            file: u8,
+            isn: u16,
+            store: *const u8,
+            store_length: usize,
+            queue: *const Entry,
+            queue_length: usize,
+            images: *const u8,
+            images_length: usize,
+            place: *mut Place,
+        );
         pub fn towungbe_store_size(table: *const u8, table_length: usize) -> usize;
         pub fn towungbe_image_size(table: *const u8, table_length: usize, capacity: usize)
             -> usize;
@@ -218,6 +242,54 @@ pub fn call(
             record.len(),
         )
     }
+}
+
+/// Where the record lies that L1 with option `C` reads. No call: nothing is changed.
+pub fn committed_place(
+    state: &State,
+    capacity: usize,
+    file: u8,
+    isn: u16,
+    store: &[u8],
+    queue: &[Entry],
+    images: &[u8],
+) -> Place {
+    let mut place = Place::default();
+    // SAFETY: as for `set_up`; nothing but the place is written.
+    unsafe {
+        c::towungbe_committed_place(
+            state,
+            capacity,
+            file,
+            isn,
+            store.as_ptr(),
+            store.len(),
+            queue.as_ptr(),
+            queue.len(),
+            images.as_ptr(),
+            images.len(),
+            &mut place,
+        )
+    }
+    place
+}
+
+/// That record itself, a piece of the images or of the store; no bytes where there is none.
+pub fn committed<'a>(
+    state: &State,
+    capacity: usize,
+    file: u8,
+    isn: u16,
+    store: &'a [u8],
+    queue: &[Entry],
+    images: &'a [u8],
+) -> &'a [u8] {
+    let place = committed_place(state, capacity, file, isn, store, queue, images);
+    let lies_in = match place.imaged {
+        true => images,
+        false => store,
+    };
+    &lies_in[place.start..place.start + place.length]
 }
 
 /// The bytes that a table's store needs; 0 for a table that set-up refuses.

@@ -4,7 +4,7 @@ use std::fmt::Write;
 use std::mem::{offset_of, size_of};
 use std::path::{Path, PathBuf};
 use std::process::Command;
-use towungbe::raw::{self, Block, Entry, EtData, Field, File, State, Transaction, User};
+use towungbe::raw::{self, Block, Entry, EtData, Field, File, Place, State, Transaction, User};
 use towungbe::Response;
 
 /// Lines `type size` and `type.field offset` of Rust's types, and a C program's statements that print the header's.
@@ -63,6 +63,7 @@ fn the_types_have_one_layout() {
         "towungbe_et_data" EtData: length bytes;
         "towungbe_state" State: count files clock users et_data last_assigned entries;
         "towungbe_block" Block: command option user file isn limit clock response answered_isn sequence quantity;
+        "towungbe_place" Place: start length imaged;
     };
     assert_eq!(printed("layout", &statements), lines);
 }

@@ -109,6 +109,7 @@ fn commands_and_options_are_known() {
     let options = [
         (CommandOption::None, &Command::ALL[..]),
         (CommandOption::Lowest, &[Command::L1, Command::L4]),
+        (CommandOption::Committed, &[Command::L1]),
         (CommandOption::Hold, &[Command::A1, Command::E1]),
         (CommandOption::AccessOnly, &[Command::Op]),
     ];
@@ -241,6 +242,94 @@ fn a_ready_transaction_waits() {
     assert_eq!(make(et, b"", b""), Response::Good);
     assert_eq!(make(reads, b"RC.", b" "), Response::Good);
     assert!(!nucleus.state().users[0].transaction.ready);
+}
+
+/// The record as ended transactions left it, by a reading and as a part: changed, emptied, added, only held.
+#[test]
+fn committed_records() {
+    let mut nucleus = nucleus();
+    let make = |nucleus: &mut Nucleus, command, user, isn, record: &[u8]| {
+        let option = match command {
+            Command::A1 | Command::E1 => CommandOption::Hold,
+            _ => CommandOption::None,
+        };
+        let made = Call::new(command, user).with_option(option).with_file(1);
+        assert!(call(nucleus, made.with_isn(isn), b"RC,HH.", record).is_good());
+    };
+    make(&mut nucleus, Command::N2, 1, 1, b"1AB");
+    make(&mut nucleus, Command::N2, 1, 2, b"2CD");
+    make(&mut nucleus, Command::Et, 1, 0, b"");
+    assert_eq!(seen_twice(&mut nucleus), [&b"1AB"[..], b"2CD", b""]);
+    make(&mut nucleus, Command::Hi, 2, 1, b"");
+    assert_eq!(seen_twice(&mut nucleus), [&b"1AB"[..], b"2CD", b""]);
+    make(&mut nucleus, Command::A1, 2, 1, b"3EF");
+    make(&mut nucleus, Command::E1, 3, 2, b"");
+    make(&mut nucleus, Command::N2, 4, 3, b"4GH");
+    assert_eq!(seen_twice(&mut nucleus), [&b"1AB"[..], b"2CD", b""]);
+    let buffers = nucleus.buffers();
+    assert_eq!(nucleus.committed(1, 1).as_ptr(), buffers.images.as_ptr());
+    for user in [4, 3, 2] {
+        make(&mut nucleus, Command::Et, user, 0, b"");
+    }
+    assert_eq!(seen_twice(&mut nucleus), [&b"3EF"[..], b"", b"4GH"]);
+    let buffers = nucleus.buffers();
+    assert_eq!(nucleus.committed(1, 1).as_ptr(), &buffers.store[1]);
+}
+
+/// What user 5 reads with `C` at each ISN of file 1, which must be the parts.
+fn seen_twice(nucleus: &mut Nucleus) -> [Vec<u8>; 3] {
+    [1, 2, 3].map(|isn| {
+        let part = nucleus.committed(1, isn).to_vec();
+        let reads = Call::new(Command::L1, 5).with_option(CommandOption::Committed);
+        let reads = reads.with_file(1).with_isn(isn);
+        let mut record = [0; 3];
+        let answer = nucleus.call(&reads, b"RC,HH.", &mut record);
+        let expected = match part.is_empty() {
+            true => Response::IsnInvalid,
+            false => Response::Good,
+        };
+        assert_eq!(answer.response, expected);
+        assert_eq!(record[..answer.quantity], part);
+        part
+    })
+}
+
+/// No bytes where `C` would be answered 11, 12, 17 or 113.
+#[test]
+fn no_committed_record() {
+    let mut nucleus = nucleus();
+    let add = Call::new(Command::N1, 1).with_file(1);
+    assert!(call(&mut nucleus, add, b"RC,HH.", b"1AB").is_good());
+    assert!(call(&mut nucleus, Call::new(Command::Et, 1), b"", b"").is_good());
+    for (file, isn) in [(0, 1), (3, 1), (255, 1), (1, 0), (1, 2), (1, 4), (1, 65535)] {
+        assert_eq!(nucleus.committed(file, isn), b"", "{file} {isn}");
+    }
+    let Buffers {
+        store,
+        queue,
+        images,
+    } = nucleus.buffers();
+    let state = nucleus.state();
+    let part = |state: &State, capacity, store: &[u8], queue: &[Entry], images: &[u8]| {
+        raw::committed_place(state, capacity, 1, 1, store, queue, images)
+    };
+    let place = raw::Place {
+        start: 1,
+        length: 3,
+        imaged: false,
+    };
+    assert_eq!(part(state, 4, store, queue, images), place);
+    let none = raw::Place::default();
+    for capacity in [0, 5, 257, usize::MAX] {
+        assert_eq!(part(state, capacity, store, queue, images), none);
+    }
+    assert_eq!(part(state, 4, &store[1..], queue, images), none);
+    assert_eq!(part(state, 4, store, &queue[1..], images), none);
+    assert_eq!(part(state, 4, store, queue, &images[1..]), none);
+    assert_eq!(part(&State::default(), 4, store, queue, images), none);
+    let mut damaged = *state;
+    damaged.users[3].transaction.ready = true;
+    assert_eq!(part(&damaged, 4, store, queue, images), none);
 }
 
 /// A lent X'5B' counts as it is, while what a call brings is stored with D.

@@ -22,6 +22,9 @@ const USAGE: &str = "usage: rows FIRST COUNT [CALLS]";
 const SINGLES: usize = 3;
 const AIMED: usize = 2;
 
+/// How many ISNs that are held are asked for their committed record, in each list and state.
+const HELD_PLACES: usize = 3;
+
 /// What the printed terms mean, and the definitions that a law has to open.
 const HEADER: &str = include_str!("rows_header.txt");
 const UNFOLDING: &str = include_str!("rows_unfolding.txt");
@@ -63,6 +66,16 @@ impl Tally {
             *self.cases.entry(case).or_default() += 1;
         }
         (answer, record)
+    }
+
+    /// The committed records at these places, counted by what they are pieces of.
+    fn parts(&mut self, machine: &Machine, wanted: &[(u8, u16)]) -> Vec<Vec<u8>> {
+        let part = |(file, isn): &(u8, u16)| {
+            let case = cases::of_part(machine, *file, *isn);
+            *self.cases.entry(case).or_default() += 1;
+            machine.committed(*file, *isn).to_vec()
+        };
+        wanted.iter().map(part).collect()
     }
 
     fn text(&self) -> String {
@@ -111,30 +124,52 @@ fn list_law(seed: u64, calls: u64, tally: &mut Tally) -> Result<String, String> 
     let answers: Vec<_> = calls
         .map(|list_call| tally.call(&mut machine, list_call))
         .collect();
+    let wanted = wanted(&machine);
+    let parts = tally.parts(&machine, &wanted);
     let fill = |length| terms::bytes(&vec![compare::FILL; length]);
     let computed = format!(
-        "list-outcome {} {} {} {} {} {}",
+        "list-outcome {} {} {} {} {} {} {}",
         terms::bytes(&list.table),
         list.capacity,
         fill(list.store),
         list.queue,
         fill(list.images),
+        terms::wanted(&wanted),
         terms::list(&list.calls, terms::given)
     );
-    let expected = terms::outcome(&answers, &machine);
+    let expected = terms::outcome(&answers, &machine, &parts);
     Ok(law(&format!("list-{seed}"), &computed, &expected))
 }
 
 fn state_law(name: &str, mut machine: Machine, list_call: &ListCall, tally: &mut Tally) -> String {
+    let wanted = wanted(&machine);
     let computed = format!(
-        "call-outcome {} ({}) ({})",
+        "call-outcome {} {} ({}) ({})",
         machine.capacity,
+        terms::wanted(&wanted),
         terms::given(list_call),
         terms::nucleus(&machine)
     );
+    let mut parts = tally.parts(&machine, &wanted);
     let answered = tally.call(&mut machine, list_call);
-    let expected = terms::outcome(&[answered], &machine);
+    parts.extend(tally.parts(&machine, &wanted));
+    let expected = terms::outcome(&[answered], &machine, &parts);
     law(name, &computed, &expected)
+}
+
+/// A few places of which the committed record is asked: the first entries', the changed before the others; an ISN of the
+/// first file and one above its highest; and one of a file that there is not.
+fn wanted(machine: &Machine) -> Vec<(u8, u16)> {
+    let entries = machine.queue.iter().take(machine.state.entries as usize);
+    let mut entries: Vec<&Entry> = entries.collect();
+    entries.sort_by_key(|entry| !entry.changed);
+    let places = entries.iter().map(|entry| (entry.file, entry.isn));
+    let mut wanted: Vec<(u8, u16)> = places.take(HELD_PLACES).collect();
+    let file = &machine.state.definition.files[0];
+    wanted.push((file.number, 1));
+    wanted.push((file.number, file.max_isn.saturating_add(1)));
+    wanted.push((17, 1));
+    wanted
 }
 
 /// A set-up with a table that may break a rule, and buffers that may be too short.
