@@ -96,6 +96,7 @@ const DAMAGES: [Damage; 16] = [
         state.users[31].transaction = raw::Transaction {
             begun: 1,
             active: true,
+            ready: false,
         }
     },
     |state, _| state.users[0].session = false,
