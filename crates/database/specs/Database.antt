@@ -1,5 +1,5 @@
 -- The nucleus as a caller has it (document 01: "the hold queue is a lent list of entries (user, file, ISN, changed or not, record there before or
--- not)"): one call, and set-up, with the queue as that list. Everything below works on words, one for each entry; `in-words` and `from-words` are the
+-- not)"): one call, set-up, and where a record lies, with the queue as that list. Everything below works on words, one for each entry; `in-words` and `from-words` are the
 -- only places where the two meet, and Laws.antt says that the entries in use are the same on both sides.
 use Prim.Native.Nat.{ℕ}
 use mathlib.Core.List.{List, _++_, map}
