@@ -12,9 +12,10 @@ use borrow.Author.Tests.{ltb-true, ltb-false}
 use Rattle.definition.specs.declared.Definition.{Definition}
 use Rattle.lists.specs.Tests.{Outcome, holds, fails, outcome}
 use Rattle.nucleus.specs.Commands.{one-of, on-session}
-use Rattle.nucleus.specs.Users.{fresh-user, opening, opened, is-active, ended, with-overdue}
+use Rattle.nucleus.specs.Users.{fresh-user, opening, opened, is-active, with-overdue}
 use Rattle.nucleus.specs.Nucleus.{Nucleus}
 use Rattle.nucleus.specs.Rows.{first-cause, rows-after-session, is-overdue, session-in-transaction, ready-refused, access-refused, transaction-missing}
+use Rattle.nucleus.specs.Clock.{forced-out}
 use Rattle.nucleus.specs.Step.{turned-away, let-in, unless-refused, admitted-session, admitted-user}
 use Rattle.nucleus.specs.declared.Call.{Call}
 use Rattle.nucleus.specs.declared.Command.{Command}
@@ -22,9 +23,10 @@ use Rattle.nucleus.specs.declared.EtData.{EtData}
 use Rattle.nucleus.specs.declared.Response.{Response}
 use Rattle.nucleus.specs.declared.Response.the-variants.{BackedOut}
 use Rattle.nucleus.specs.declared.User.{User}
-use Rattle.overdue.specs.Parts.{parts}
-use Rattle.overdue.specs.Laws.{out-parts, backed-out-parts}
+use Rattle.handing.specs.Parts.{parts, nucleus-of}
+use Rattle.handing.specs.declared.Standing.{Standing}
 use Rattle.shares.specs.Shares.{verdict}
+use Rattle.shares.specs.declared.Verdict.{Verdict}
 use Rattle.access.specs.Access.{session-cause, admission-of}
 
 -- ---- after the clock, whatever else the state keeps
@@ -39,19 +41,19 @@ opened-alike f same users k = go (outcome (ltb k (length users)))
         let past = ltb-false k (length users) t in
         rw (set-out users k (opened (getD users k fresh-user)) past, List·getD-eq-default users fresh-user past) same
 
-module _ (c : Command) (call : Call) (d : Definition) (clock : ℕ) (users : List User) (kept : List EtData) (assigned : List ℕ) (count : ℕ) (store queue images : List ℕ) where
+module _ (c : Command) (call : Call) (d : Definition) (clock : ℕ) (s : Standing) (kept : List EtData) (assigned : List ℕ) (store queue images : List ℕ) where
   abbrev place : ℕ
   place = call .user - 1
 
   abbrev caller : User
-  caller = getD users place fresh-user
-
-  -- with another value for the caller
-  abbrev with-caller : User → Nucleus
-  with-caller user = parts d clock (set users place user) kept assigned count store queue images
+  caller = getD (s .users) place fresh-user
 
   abbrev here : Nucleus
-  here = parts d clock users kept assigned count store queue images
+  here = nucleus-of d clock s kept assigned store queue images
+
+  -- with other users
+  abbrev with-users : List User → Nucleus
+  with-users users = parts d clock users kept assigned (s .count) (s .«wait_queue») store queue images
 
   mark-is : is-overdue c call here ≡ caller .overdue
   unfolding is-overdue
@@ -61,25 +63,31 @@ module _ (c : Command) (call : Call) (d : Definition) (clock : ℕ) (users : Lis
   unfolding session-in-transaction
   session-is = refl
 
-  cause-is : first-cause (rows-after-session c call (with-caller (opened caller))) ≡ session-cause c (opened caller)
+  cause-is : first-cause (rows-after-session c call (with-users (set (s .users) place (opened caller)))) ≡ session-cause c (opened caller)
   unfolding ready-refused access-refused transaction-missing session-cause
-  cause-is = opened-alike (session-cause c) refl users place
+  cause-is = opened-alike (session-cause c) refl (s .users) place
 
-  pub marked : caller .overdue ≡ true → admitted-user c call here ≡ turned-away BackedOut (with-caller (with-overdue false caller))
-  unfolding admitted-user
-  marked late = rw (mark-is ∙ late)
-
-  module _ (unmarked : caller .overdue ≡ false) where
-    pub session-refused : (one-of on-session c && is-active caller) ≡ true
-        → admitted-user c call here ≡ turned-away BackedOut (out-parts d clock users kept assigned count store queue images (call .user) (set users place (ended caller)))
+  -- `user` is the caller as code has him, `users` what it leaves of the users
+  module _ (user : User) (read : user ≡ caller) where
+    pub marked : (users : List User) → user .overdue ≡ true → users ≡ set (s .users) place (with-overdue false user)
+        → admitted-user c call here ≡ turned-away BackedOut (with-users users)
     unfolding admitted-user
-    session-refused active = rw (mark-is ∙ unmarked, session-is ∙ active, backed-out-parts d clock users kept assigned count store queue images (call .user))
+    marked users late told = rw (told, read, mark-is ∙ rw read at late)
 
-    pub judged : (one-of on-session c && is-active caller) ≡ false
-        → admitted-user c call here ≡ admission-of (verdict (session-cause c (opened caller))) c (with-caller (opened caller))
-    unfolding admitted-user admitted-session
-    judged free = rw (mark-is ∙ unmarked, session-is ∙ free, cause-is) (go (session-cause c (opened caller)))
-      where
-        go : (x : Option Response) → unless-refused x (with-caller (opened caller)) (let-in c (with-caller (opened caller))) ≡ admission-of (verdict x) c (with-caller (opened caller))
-        go (some cause) = refl
-        go none = refl
+    module _ (unmarked : user .overdue ≡ false) where
+      pub session-refused : (one-of on-session c && is-active user) ≡ true → admitted-user c call here ≡ turned-away BackedOut (forced-out (call .user) here)
+      unfolding admitted-user
+      session-refused active = rw (mark-is ∙ rw read at unmarked, session-is ∙ rw read at active)
+
+      pub judged : (users : List User) (v : Verdict) → (one-of on-session c && is-active user) ≡ false → v ≡ verdict (session-cause c (opened user)) → users ≡ set (s .users) place (opened user)
+          → admitted-user c call here ≡ admission-of v c (with-users users)
+      unfolding admitted-user admitted-session
+      judged users v free judgement people =
+          rw (judgement, people, read, mark-is ∙ rw read at unmarked, session-is ∙ rw read at free, cause-is) (go (session-cause c (opened caller)))
+        where
+          after : Nucleus
+          after = with-users (set (s .users) place (opened caller))
+
+          go : (x : Option Response) → unless-refused x after (let-in c after) ≡ admission-of (verdict x) c after
+          go (some cause) = refl
+          go none = refl

@@ -2,17 +2,16 @@
 ghost use mathlib.Core.Bool.{_&&_, not};
 ghost use mathlib.Core.List.{List};
 ghost use mathlib.Core.Path.{_≡_};
-ghost use Prim.Native.Nat.{ℕ, _-_};
-ghost use lib.ListN.{getD, set};
+ghost use Prim.Native.Nat.{ℕ};
 ghost use Rattle.nucleus.specs.Commands.{one-of, on-session, serving-ready, setting-ready, serving-access-only};
-ghost use Rattle.nucleus.specs.Users.{fresh-user, is-active, is-ready};
+ghost use Rattle.nucleus.specs.Users.{is-active, is-ready};
 ghost use Rattle.nucleus.specs.Step.{admitted-user};
 ghost use Rattle.nucleus.specs.declared.EtData.{EtData};
-ghost use Rattle.nucleus.specs.declared.User.{User};
-ghost use Rattle.overdue.specs.Parts.{parts};
+ghost use Rattle.handing.specs.Parts.{nucleus-of};
 ghost use Rattle.shares.specs.Shares.{verdict};
 ghost use Rattle.access.specs.Access.{session-cause, admission-of};
 use definition::Definition;
+use handing::Standing;
 use nucleus::Call;
 use nucleus::Command;
 use nucleus::Response;
@@ -115,11 +114,10 @@ fn judge(command: Command, user: User) -> Verdict
     Verdict::Passed
 }
 
-// What becomes of a caller: whether he is let in, his session and transaction then, and the entries that are left.
+// Whether a caller is let in, and what is left then.
 pub struct Entered {
     pub verdict: Verdict,
-    pub user: User,
-    pub count: usize,
+    pub standing: Standing,
 }
 
 // 9, the session that opens, and 211, 29 and 212, after the clock; whatever else the state keeps.
@@ -127,39 +125,37 @@ pub fn admit_user(
     command: Command,
     call: Call,
     d: Definition,
-    user: User,
-    count: usize,
+    clock: u32,
+    mut standing: Standing,
     store: &mut [u8],
     queue: &mut [u64],
     images: &mut [u8],
 ) -> Entered
-    ensures { λ r. ⌜ ((clock : ℕ) (users : List User) (kept : List EtData) (assigned : List ℕ) → getD users (call .user - 1) fresh-user ≡ user
-        → admitted-user command call (parts d clock users kept assigned count (now (store .entry)) (now (queue .entry)) (now (images .entry)))
-        ≡ admission-of (r .verdict) command (parts d clock (set users (call .user - 1) (r .user)) kept assigned (r .count) (now (store .exit)) (now (queue .exit)) (now (images .exit)))) ⌝ }
+    ensures { λ r. ⌜ ((kept : List EtData) (assigned : List ℕ)
+        → admitted-user command call (nucleus-of d clock standing kept assigned (now (store .entry)) (now (queue .entry)) (now (images .entry)))
+        ≡ admission-of (r .verdict) command (nucleus-of d clock (r .standing) kept assigned (now (store .exit)) (now (queue .exit)) (now (images .exit)))) ⌝ }
 {
+    let users = standing.users;
+    let user = handing::user_at(users, call.user);
     if user.overdue {
         let cleared = sessions::with_overdue(user, false);
+        let told = handing::with_user(users, call.user, cleared);
+        standing.users = told;
         return Entered {
             verdict: Verdict::Refused(Response::BackedOut),
-            user: cleared,
-            count,
+            standing,
         };
     }
     if session_in_transaction(command, user) {
-        let width = layout::image_length(d);
-        let left = release::back_out(d, width, call.user, store, queue, images, count);
-        let out = release::ended(user);
+        let out = handing::force_out(d, clock, standing, call.user, store, queue, images);
         return Entered {
             verdict: Verdict::Refused(Response::BackedOut),
-            user: out,
-            count: left,
+            standing: out,
         };
     }
     let session = sessions::opened(user);
     let verdict = judge(command, session);
-    Entered {
-        verdict,
-        user: session,
-        count,
-    }
+    let people = handing::with_user(users, call.user, session);
+    standing.users = people;
+    Entered { verdict, standing }
 }

@@ -96,6 +96,6 @@ pub assigned-kept : (call : Call) (x : Share) (queue : List ℕ) (clock isn : �
 unfolding held-share
 assigned-kept call x queue clock isn = go (is-holder (call .user) (holder-at call x queue isn))
   where
-    go : (b : Bool) → share-with-assigned (x .«last_assigned») (cond b x (share (started clock (x .user)) (x .«et_data») (x .«last_assigned») (next-count call x queue))) ≡ cond b x (share (started clock (x .user)) (x .«et_data») (x .«last_assigned») (next-count call x queue))
+    go : (b : Bool) → share-with-assigned (x .«last_assigned») (cond b x (share (started clock (x .user)) (x .«et_data») (x .«last_assigned») (next-count call x queue) (x .waits))) ≡ cond b x (share (started clock (x .user)) (x .«et_data») (x .«last_assigned») (next-count call x queue) (x .waits))
     go true = refl
     go false = refl

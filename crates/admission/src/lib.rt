@@ -1,60 +1,25 @@
-// What comes before a command that is understood (document 01, 'Responses'): the clock with its back-outs, 9, the session that opens, 211, 29, 212.
+// What comes before a command that is understood (document 01, 'Responses'; document 02, No. 1): the line that the caller leaves, the clock with its
+// back-outs, 9, the session that opens, 211, 29, 212.
 ghost use mathlib.Core.List.{List};
 ghost use mathlib.Core.Path.{_≡_};
-ghost use Prim.Native.Nat.{ℕ, _-_, max};
-ghost use lib.ListN.{getD, set};
-ghost use Rattle.nucleus.specs.Users.{fresh-user};
+ghost use Prim.Native.Nat.{ℕ, max};
+ghost use Rattle.nucleus.specs.Waiters.{left-by};
 ghost use Rattle.nucleus.specs.Clock.{clocked};
 ghost use Rattle.nucleus.specs.Step.{admitted-user};
 ghost use Rattle.nucleus.specs.declared.EtData.{EtData};
-ghost use Rattle.nucleus.specs.declared.User.{User};
-ghost use Rattle.overdue.specs.Parts.{parts};
+ghost use Rattle.handing.specs.Parts.{nucleus-of};
 ghost use Rattle.access.specs.Access.{admission-of};
 use definition::Definition;
+use handing::Standing;
 use nucleus::Call;
 use nucleus::Command;
-use nucleus::MAX_USERS;
-use nucleus::User;
 use shares::Verdict;
 
-// Whether the call is let in, and what the clock, a back-out and the session that opened left of clock, users and entries.
+// Whether the call is let in, and what the clock, a back-out and the session that opened left.
 pub struct Admitted {
     pub verdict: Verdict,
     pub clock: u32,
-    pub users: [User; MAX_USERS],
-    pub count: usize,
-}
-
-// Where a user's number stands among the users; 0 reads as 1, as in the definitions.
-fn place(number: u8) -> usize
-    ensures { λ r. ⌜ r ≡ number - 1 ⌝ }
-{
-    if number == 0 {
-        return 0;
-    }
-    (number - 1) as usize
-}
-
-// The user of a number; one without a session where there is none.
-fn user_at(users: [User; MAX_USERS], number: u8) -> User
-    ensures { λ r. ⌜ r ≡ getD users (number - 1) fresh-user ⌝ }
-{
-    let at = place(number);
-    if at < MAX_USERS {
-        return users[at];
-    }
-    sessions::fresh_user()
-}
-
-// The users with another value for one of them.
-fn with_user(mut users: [User; MAX_USERS], number: u8, user: User) -> [User; MAX_USERS]
-    ensures { λ r. ⌜ r ≡ set users (number - 1) user ⌝ }
-{
-    let at = place(number);
-    if at < MAX_USERS {
-        users[at] = user;
-    }
-    users
+    pub standing: Standing,
 }
 
 fn latest(a: u32, b: u32) -> u32
@@ -63,33 +28,34 @@ fn latest(a: u32, b: u32) -> u32
     if a < b { b } else { a }
 }
 
-// The clock with its back-outs, 9, the session that opens, and 211, 29 and 212; whatever else the state keeps.
+// The caller leaves the line before the clock's back-outs, so that none hands him a hold; "The same command, option, file and ISN again while he
+// waits keeps his place". Whatever else the state keeps.
 pub fn admit(
     command: Command,
     call: Call,
     d: Definition,
     clock: u32,
-    users: [User; MAX_USERS],
-    count: usize,
+    mut standing: Standing,
     store: &mut [u8],
     queue: &mut [u64],
     images: &mut [u8],
 ) -> Admitted
     ensures { λ r. ⌜ ((kept : List EtData) (assigned : List ℕ)
-        → admitted-user command call (clocked (call .clock) (parts d clock users kept assigned count (now (store .entry)) (now (queue .entry)) (now (images .entry))))
-        ≡ admission-of (r .verdict) command (parts d (r .clock) (r .users) kept assigned (r .count) (now (store .exit)) (now (queue .exit)) (now (images .exit)))) ⌝ }
+        → admitted-user command call
+        (clocked (call .clock) (left-by command call (nucleus-of d clock standing kept assigned (now (store .entry)) (now (queue .entry)) (now (images .entry)))))
+        ≡ admission-of (r .verdict) command (nucleus-of d (r .clock) (r .standing) kept assigned (now (store .exit)) (now (queue .exit)) (now (images .exit)))) ⌝ }
 {
+    let waiting = standing.wait_queue;
+    let line = waiters::leave_by(command, call, waiting);
+    standing.wait_queue = line;
     let now = latest(clock, call.clock);
-    let passed = overdue::pass(d, now, users, count, store, queue, images);
-    let people = passed.users;
-    let user = user_at(people, call.user);
-    let entered = access::admit_user(command, call, d, user, passed.count, store, queue, images);
-    let after = with_user(people, call.user, entered.user);
+    let passed = overdue::pass(d, now, standing, store, queue, images);
+    let entered = access::admit_user(command, call, d, now, passed, store, queue, images);
     let verdict = entered.verdict;
+    let after = entered.standing;
     Admitted {
         verdict,
         clock: now,
-        users: after,
-        count: entered.count,
+        standing: after,
     }
 }

@@ -12,14 +12,17 @@ ghost use Rattle.nucleus.specs.Target.{assigned-in};
 ghost use Rattle.nucleus.specs.Step.{perform, step};
 ghost use Rattle.shares.specs.Shares.{assigned-with};
 ghost use Rattle.calls.specs.Outcome.{outcome};
+ghost use Rattle.calls.specs.StepLaws.{served-lined};
 ghost use Rattle.file_commands.specs.FileCommands.{left};
 ghost use Rattle.calls.specs.Commands.{in-file, performed};
 ghost use Rattle.nucleus.specs.declared.Command.the-variants.{Ri};
 use definition::Definition;
 use definition::MAX_FILES;
+use handing::Standing;
 use nucleus::Answer;
 use nucleus::Call;
 use nucleus::Command;
+use nucleus::MAX_CAPACITY;
 use nucleus::Response;
 use nucleus::State;
 use records::Found;
@@ -251,11 +254,13 @@ fn serve(
     let assigned = state.last_assigned;
     let user = state.users[at];
     let et_data = state.et_data[at];
+    let line = state.wait_queue;
     let share = Share {
         user,
         et_data,
         last_assigned: assigned_in(assigned, found),
         count: state.count,
+        waits: waiters::in_line(line, call.user),
     };
     let done = perform(
         command,
@@ -283,6 +288,71 @@ fn serve(
     Outcome { answer, state }
 }
 
+// A command past 212, and the line after it.
+fn serve_lined(
+    command: Command,
+    state: State,
+    capacity: usize,
+    call: Call,
+    store: &mut [u8],
+    queue: &mut [u64],
+    images: &mut [u8],
+    format: &[u8],
+    buffer: &mut [u8],
+) -> Outcome
+    requires { ⌜ (1 ≤ call .user) × (call .user ≤ 32) ⌝ }
+    requires { ⌜ valid (state .definition) ≡ true ⌝ }
+    requires { ⌜ (store-size (state .definition) ≤ length (now store)) × (capacity ≤ length (now queue)) ⌝ }
+    ensures { λ r. ⌜ result (r .answer) (nucleus (r .state) (now (store .exit)) (now (queue .exit)) (now (images .exit))) (now (buffer .exit))
+        ≡ served-lined (request capacity command call (now (format .entry)) (now (buffer .entry))) (nucleus state (now (store .entry)) (now (queue .entry)) (now (images .entry))) ⌝ }
+{
+    let mut words = [0u64; MAX_CAPACITY];
+    let n = settling::let_go(command, call, queue, state.count, &mut words);
+    let outcome = serve(
+        command,
+        state,
+        capacity,
+        call,
+        store,
+        queue,
+        images,
+        format,
+        buffer,
+    );
+    let answer = outcome.answer;
+    let mut after = outcome.state;
+    let d = after.definition;
+    let users = after.users;
+    let line = after.wait_queue;
+    let standing = Standing {
+        users,
+        count: after.count,
+        wait_queue: line,
+    };
+    let cause = answer.response;
+    let left = settling::settle(
+        command,
+        call,
+        cause,
+        d,
+        after.clock,
+        standing,
+        &words,
+        n,
+        store,
+        queue,
+    );
+    let left_users = left.users;
+    let left_line = left.wait_queue;
+    after.users = left_users;
+    after.count = left.count;
+    after.wait_queue = left_line;
+    Outcome {
+        answer,
+        state: after,
+    }
+}
+
 // One call, for any state, capacity, call and buffers.
 pub fn step(
     mut state: State,
@@ -308,26 +378,34 @@ pub fn step(
     };
     let d = state.definition;
     let users = state.users;
+    let line = state.wait_queue;
+    let standing = Standing {
+        users,
+        count: state.count,
+        wait_queue: line,
+    };
     let admitted = admission::admit(
         command,
         call,
         d,
         state.clock,
-        users,
-        state.count,
+        standing,
         store,
         queue,
         images,
     );
-    let people = admitted.users;
+    let left = admitted.standing;
+    let people = left.users;
+    let waiters = left.wait_queue;
     state.clock = admitted.clock;
     state.users = people;
-    state.count = admitted.count;
+    state.count = left.count;
+    state.wait_queue = waiters;
     let verdict = admitted.verdict;
     if let Verdict::Refused(cause) = verdict {
         return refused(cause, state);
     }
-    serve(
+    serve_lined(
         command,
         state,
         capacity,

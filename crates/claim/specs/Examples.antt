@@ -35,19 +35,20 @@ use Rattle.images.specs.Images.{image-has}
 use Rattle.removal.specs.Removal.{remove-queue, remove-images, remove-count}
 use Rattle.hold.specs.Hold.{put-back-in, put-back, restore}
 use Rattle.nucleus.specs.Text.{text}
-use Rattle.nucleus.specs.Commands.{command-of, has-option, blank, option-H}
+use Rattle.nucleus.specs.Commands.{command-of, has-option, blank, option-H, option-W}
 use Rattle.nucleus.specs.Users.{is-active}
-use Rattle.nucleus.specs.Nucleus.{Given, given, max-users, user-at}
+use Rattle.nucleus.specs.Nucleus.{Given, given, max-users, user-at, entries-of}
 use Rattle.nucleus.specs.WellMade.{too-short, well-made}
-use Rattle.nucleus.specs.Clock.{removed, backed-out, clocked}
+use Rattle.nucleus.specs.Waiters.{left-line, joined-line, line-left-by, handed-on, waiters-of}
+use Rattle.nucleus.specs.Clock.{removed, backed-out, forced-out, clocked}
 use Rattle.nucleus.specs.Target.{target, new-record}
-use Rattle.nucleus.specs.Rows.{rows-usable, rows-understood, is-overdue, session-in-transaction, ready-refused, access-refused, transaction-missing, file-unknown, isn-invalid, format-refused, field-twice, record-length-refused, value-refused, none-found, held-elsewhere, presence-refused, not-held, release-refused, file-full, limit-reached, queue-full, value-taken}
+use Rattle.nucleus.specs.Rows.{rows-usable, rows-understood, is-overdue, session-in-transaction, ready-refused, access-refused, transaction-missing, file-unknown, isn-invalid, format-refused, field-twice, record-length-refused, value-refused, none-found, held-elsewhere, waits, presence-refused, not-held, release-refused, file-full, limit-reached, queue-full, value-taken}
 use Rattle.nucleus.specs.Effects.{held, imaged, written, erased, effect-at}
-use Rattle.nucleus.specs.Step.{admitted-session, admitted-user, admitted, perform, step, set-up}
+use Rattle.nucleus.specs.Step.{admitted-session, admitted-user, admitted, perform, after-line, step, set-up}
 use Rattle.nucleus.specs.declared.Response.the-variants.{Good}
 use Rattle.entries.specs.declared.Entry.{Entry}
-use Rattle.database.specs.Database.{fitting, direct-call, set-up-database}
-use Rattle.claim.specs.Journal.{apply, Member, Journal, new-member, new-journal, in-transaction, struck, log-clock, log-start, log-change, log-end, log-limit, log-ready, fed, record-told}
+use Rattle.database.specs.Database.{in-words, fitting, direct-call, set-up-database}
+use Rattle.claim.specs.Journal.{apply, Member, Hold, Waiter, Journal, new-member, new-journal, in-transaction, struck-changes, log-leave, log-handed-on, log-let-go, struck, log-clock, log-start, log-change, log-end, log-limit, log-ready, log-hold, log-mark, log-join, log-left-by, fed, record-told}
 use Rattle.claim.specs.Run.{World, run, begin, BackOut, back-outs, struck-all, record-in}
 use Rattle.claim.specs.Answers.{Answered, answers, fed-all}
 use Rattle.claim.specs.Claim.{Chosen}
@@ -173,9 +174,26 @@ replacing-nothing = adds 0 ∷ bare "ET" 1 0 0 ∷ sent "A1" option-H 1 1 0 5 (t
 ready-list : List Given
 ready-list = bare "HI" 1 2 0 ∷ adds 0 ∷ bare "PE" 1 0 0 ∷ reads 901 ∷ bare "ET" 1 0 901 ∷ []
 
+-- document 02, No. 1: user 1 holds, user 2 waits, and ET of user 1 hands over at clock 0
+waiting-list : List Given
+waiting-list = bare "HI" 1 1 0 ∷ sent "HI" option-W 2 1 0 0 [] [] ∷ bare "ET" 1 0 0 ∷ []
+
+-- user 2 adds a record at clock 900, and at 901 his transaction is too old
+overdue-receiver : List Given
+overdue-receiver = waiting-list ++ (sent "N1" blank 2 0 0 900 (text "RC.") (text "7") ∷ reads 901 ∷ [])
+
+-- three wait, and user 1, who has changed one of his two records, lets both go
+lines-list : List Given
+lines-list =
+    bare "HI" 1 2 0 ∷
+    sent "N2" blank 1 1 0 0 (text "RC.") (text "5") ∷
+    sent "HI" option-W 2 1 0 3 [] [] ∷
+    sent "L4" option-W 3 2 0 4 (text "RC.") (0 ∷ []) ∷
+    sent "HI" option-W 4 1 0 5 [] [] ∷ []
+
 -- a journal at clock 7
 abbrev ahead : Journal
-ahead = record { clock = 7; members = new-journal .members; changes = [] }
+ahead = record { clock = 7; members = new-journal .members; changes = []; holds = []; line = [] }
 
 -- a file of highest ISN 3 with one field, PA, packed, two bytes
 packed-table : List ℕ
@@ -252,6 +270,13 @@ rows =
     -- "to that transaction's end": the next one is not ready
     row (adds 0 ∷ bare "PE" 1 0 0 ∷ bare "ET" 1 0 0 ∷ bare "HI" 1 2 0 ∷ reads 901 ∷ [])
     (both (some (text "2AB") ∷ none ∷ none ∷ []) [] (idle 900) (idle 900) 901) ∷
+    -- document 02, No. 1: a 20 starts nothing; a hold handed over "opens a transaction then"
+    row (take 2 waiting-list) (both (none ∷ none ∷ none ∷ []) (1 ∷ []) (since 0 900) (idle 900) 0) ∷
+    row waiting-list (both (none ∷ none ∷ none ∷ []) (2 ∷ []) (idle 900) (since 0 900) 0) ∷
+    row (take 4 overdue-receiver) (both (none ∷ some (text "7  ") ∷ none ∷ []) (2 ∷ []) (idle 900) (since 0 900) 900) ∷
+    row overdue-receiver (both (none ∷ none ∷ none ∷ []) [] (idle 900) (idle 900) 901) ∷
+    -- a closing BT may bring a waiter into a transaction: it strikes nothing of his
+    back-out-row (take 2 waiting-list) (out 1 ∷ []) (both (none ∷ none ∷ none ∷ []) (2 ∷ []) (idle 900) (since 0 900) 0) ∷
     -- "A response of 72's row or an earlier one changes nothing in it": 22, 72; a later one raises the clock: 113
     row (adds 0 ∷ bare "XX" 2 1 901 ∷ bare "HI" 33 1 901 ∷ []) (both (some (text "2AB") ∷ none ∷ none ∷ []) (1 ∷ []) (since 0 900) (idle 900) 0) ∷
     row (adds 0 ∷ bare "HI" 2 4 901 ∷ []) (both (none ∷ none ∷ none ∷ []) [] (idle 900) (idle 900) 901) ∷
@@ -308,6 +333,56 @@ queue-after calls = run 2 calls (begin 2 (replicate 16 0) (replicate 3 strange) 
 abbrev hold-of : ℕ → ℕ → Bool → Entry
 hold-of user isn changed = record { user = user; file = 1; isn = isn; changed = changed; existed = false }
 
+-- ---- document 02, No. 1: holds and lines, as the journal has them and as the nucleus does
+record Lines : Type 0 where
+  holds : List Hold
+  line : List Waiter
+
+abbrev told-lines : World → Lines
+told-lines w = record { holds = w .journal .holds; line = w .journal .line }
+
+abbrev kept-lines : World → Lines
+kept-lines w =
+    let n = in-words capacity (w .database) in
+    record {
+      holds = map (λ (e : Entry). record { user = e .user; file = e .file; isn = e .isn; changed = e .changed }) (entries-of n);
+      line = map (λ (e : Entry). record { user = e .user; file = e .file; isn = e .isn; reads = e .changed }) (waiters-of n);
+    }
+
+abbrev holds-isn : ℕ → ℕ → Bool → Hold
+holds-isn user isn changed = record { user = user; file = 1; isn = isn; changed = changed }
+
+abbrev waits-for : ℕ → ℕ → Bool → Waiter
+waits-for user isn reads = record { user = user; file = 1; isn = isn; reads = reads }
+
+-- a list of calls, and what both have after it
+record LineRow : Type 0 where
+  calls : List Given
+  lines : Lines
+
+abbrev line-row : List Given → List Hold → List Waiter → LineRow
+line-row calls holds line = record { calls = calls; lines = record { holds = holds; line = line } }
+
+abbrev both-have : LineRow → Type 0
+both-have r =
+    (told-lines (run capacity (r .calls) (fresh-world house-table)) ≡ r .lines)
+    × (kept-lines (run capacity (r .calls) (fresh-world house-table)) ≡ r .lines)
+
+line-rows : List LineRow
+line-rows =
+    line-row lines-list (holds-isn 1 2 false ∷ holds-isn 1 1 true ∷ []) (waits-for 2 1 false ∷ waits-for 3 2 true ∷ waits-for 4 1 false ∷ []) ∷
+    -- "oldest entry first": ISN 2 was held before ISN 1
+    line-row (lines-list ++ (bare "ET" 1 0 6 ∷ [])) (holds-isn 3 2 false ∷ holds-isn 2 1 false ∷ []) (waits-for 4 1 false ∷ []) ∷
+    line-row (lines-list ++ (bare "BT" 1 0 6 ∷ [])) (holds-isn 3 2 false ∷ holds-isn 2 1 false ∷ []) (waits-for 4 1 false ∷ []) ∷
+    -- RI of ISN 0 skips the changed
+    line-row (lines-list ++ (bare "RI" 1 0 6 ∷ [])) (holds-isn 1 1 true ∷ holds-isn 3 2 false ∷ []) (waits-for 2 1 false ∷ waits-for 4 1 false ∷ []) ∷
+    -- OP in a transaction, and the clock; the same call keeps its place, another one leaves
+    line-row (lines-list ++ (opens 0 ∷ [])) (holds-isn 3 2 false ∷ holds-isn 2 1 false ∷ []) (waits-for 4 1 false ∷ []) ∷
+    line-row (lines-list ++ (sent "HI" option-W 4 1 0 901 [] [] ∷ [])) (holds-isn 3 2 false ∷ holds-isn 2 1 false ∷ []) (waits-for 4 1 false ∷ []) ∷
+    line-row (lines-list ++ (reads 901 ∷ [])) (holds-isn 3 2 false ∷ holds-isn 4 1 false ∷ []) [] ∷
+    -- whoever is backed out waits no more
+    line-row (bare "HI" 2 2 0 ∷ bare "HI" 1 1 10 ∷ sent "HI" option-W 2 1 0 10 [] [] ∷ bare "RE" 3 0 901 ∷ []) (holds-isn 1 1 false ∷ []) [] ∷ []
+
 -- ---- all of it, a `refl` for each row
 record Worked : Type 0 where
   -- the premises of the claim hold of such a set-up, list of calls and BTs
@@ -320,10 +395,11 @@ record Worked : Type 0 where
   held-two : queue-after (bare "HI" 1 3 0 ∷ adds 0 ∷ []) ≡ hold-of 1 3 false ∷ hold-of 1 1 true ∷ strange ∷ []
   gap-closed : take 1 (queue-after (bare "HI" 1 3 0 ∷ adds 0 ∷ bare "RI" 1 3 0 ∷ [])) ≡ hold-of 1 1 true ∷ []
   rows-as-expected : Each (λ (r : Row). r .computed ≡ r .expected) rows
+  lines-as-expected : Each both-have line-rows
   journal-rows-as-expected : Each (λ (r : JournalRow). r .computed ≡ r .expected) journal-rows
 
 worked : Worked
-unfolding house-table house-calls two-adds erasing replacing-nothing ready-list packed-table rows journal-rows record-length field-offset file-offset store-size image-length place valid file-valid field-valid name-valid format-of option-of file-item field-item item-of read-from read-table stored below-zero allowed null-value field-named format-valid element places named-twice length-needed needed-within fits read-fields write-fields values-allowed null-record slot-fits has-record get lowest elsewhere put-record empty fresh file-part with-part pack-of unpack-of entries holder held-by repeated append change closed remove-queue remove-images remove-count image-has keep-image settled first-change-queue first-change-images put-back-in put-back restore command-of has-option too-short well-made removed backed-out clocked target rows-usable rows-understood is-overdue session-in-transaction ready-refused access-refused transaction-missing file-unknown isn-invalid format-refused field-twice record-length-refused value-refused none-found held-elsewhere committed-version version-there version-bytes presence-refused not-held release-refused file-full limit-reached queue-full new-record value-taken held imaged written erased effect-at admitted-session admitted-user admitted perform step set-up fitting direct-call set-up-database apply struck log-clock log-start log-change log-end log-limit log-ready fed record-told run
+unfolding house-table house-calls two-adds erasing replacing-nothing ready-list waiting-list overdue-receiver lines-list packed-table rows line-rows journal-rows record-length field-offset file-offset store-size image-length place valid file-valid field-valid name-valid format-of option-of file-item field-item item-of read-from read-table stored below-zero allowed null-value field-named format-valid element places named-twice length-needed needed-within fits read-fields write-fields values-allowed null-record slot-fits has-record get lowest elsewhere put-record empty fresh file-part with-part pack-of unpack-of entries holder held-by repeated append change closed remove-queue remove-images remove-count image-has keep-image settled first-change-queue first-change-images put-back-in put-back restore command-of has-option too-short well-made removed backed-out left-line joined-line line-left-by handed-on forced-out clocked target rows-usable rows-understood is-overdue session-in-transaction ready-refused access-refused transaction-missing file-unknown isn-invalid format-refused field-twice record-length-refused value-refused none-found held-elsewhere waits committed-version version-there version-bytes presence-refused not-held release-refused file-full limit-reached queue-full new-record value-taken held imaged written erased effect-at admitted-session admitted-user admitted perform after-line step set-up fitting direct-call set-up-database apply struck-changes log-leave log-handed-on log-let-go struck log-clock log-start log-change log-end log-limit log-ready log-hold log-mark log-join log-left-by fed record-told run
 worked = record {
   good = refl;
   chosen = record { different = refl; active = refl };
@@ -331,6 +407,7 @@ worked = record {
   held-one = refl;
   held-two = refl;
   gap-closed = refl;
-  rows-as-expected = (refl, (refl, (refl, (refl, (refl, (refl, (refl, (refl, (refl, (refl, (refl, (refl, (refl, (refl, (refl, (refl, (refl, (refl, (refl, (refl, (refl, (refl, (refl, (refl, (refl, (refl, (refl, (refl, (refl, (refl, (refl, (refl, (refl, (refl, (refl, (refl, (refl, (refl, (refl, (refl, tt))))))))))))))))))))))))))))))))))))))));
+  rows-as-expected = (refl, (refl, (refl, (refl, (refl, (refl, (refl, (refl, (refl, (refl, (refl, (refl, (refl, (refl, (refl, (refl, (refl, (refl, (refl, (refl, (refl, (refl, (refl, (refl, (refl, (refl, (refl, (refl, (refl, (refl, (refl, (refl, (refl, (refl, (refl, (refl, (refl, (refl, (refl, (refl, (refl, (refl, (refl, (refl, (refl, tt)))))))))))))))))))))))))))))))))))))))))))));
+  lines-as-expected = ((refl, refl), ((refl, refl), ((refl, refl), ((refl, refl), ((refl, refl), ((refl, refl), ((refl, refl), ((refl, refl), tt))))))));
   journal-rows-as-expected = (refl, (refl, (refl, (refl, (refl, tt)))));
 }

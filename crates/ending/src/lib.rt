@@ -80,6 +80,7 @@ pub fn et(
         et_data,
         last_assigned: share.last_assigned,
         count,
+        waits: share.waits,
     };
     shares::good(0, gone, sequence, after)
 }

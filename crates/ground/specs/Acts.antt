@@ -1,21 +1,21 @@
 -- Each operation of the abstract machine, done by the functions of `queue`, `images`, `hold` and `store` on a well made state.
 -- Assumes nothing.
-use Prim.Native.Nat.{ℕ, suc, _+_, _<_}
+use Prim.Native.Nat.{ℕ, _+_, _<_}
 use mathlib.Core.Path.{_≡_, sym, ap, _∙_}
 use mathlib.Core.Bool.{Bool, true, false, cond}
 use mathlib.Core.List.{List, [], _∷_, _++_, map}
 use mathlib.Core.Option.{none, some}
 use lib.ListN.{length}
 use native.Mathlib.Omega.{arith}
-use Rattle.lists.specs.Tests.{Outcome, holds, fails, outcome, or-left, or-right, eqb-self}
+use Rattle.lists.specs.Tests.{Outcome, holds, fails, outcome, eqb-self}
 use Rattle.lists.specs.Folds.{any}
 use Rattle.definition.specs.Shape.{DefinitionShape}
 use Rattle.definition.specs.declared.Definition.{Definition}
 use Rattle.layout.specs.Layout.{image-length}
-use Rattle.entries.specs.Entries.{is-of, entries}
-use Rattle.queue.specs.Queue.{seek, holder, append}
+use Rattle.entries.specs.Entries.{entries}
+use Rattle.queue.specs.Queue.{holder, append}
 use Rattle.entries.specs.Laws.{Shape, length-entries}
-use Rattle.queue.specs.Laws.{entries-append, free-none}
+use Rattle.queue.specs.Laws.{entries-append, holder-last}
 use Rattle.entries.specs.declared.Entry.{Entry}
 use Rattle.queue.specs.declared.Lookup.the-variants.{Held, Free}
 use Rattle.removal.specs.Removal.{remove-queue, remove-images, remove-count}
@@ -109,19 +109,8 @@ change-holds G u k c m = λ j. record {
   queue = map (image-kept k (G .get (m .store) k)) (hold-twice u k (m .queue) j);
 }
 
--- and the new entry is found at the end (`queue`, Laws)
-seek-last : (file isn : ℕ) (e : Entry) (es : List Entry) (from : ℕ) → any (is-of file isn) es ≡ false → is-of file isn e ≡ true
-    → seek file isn (es ++ e ∷ []) from ≡ Held (from + length es) e
-seek-last file isn e [] from h t = let z : from + 0 ≡ from = omega arith in rw (t, z)
-seek-last file isn e (x ∷ es) from h t =
-    let z : from + suc (length es) ≡ from + 1 + length es = omega arith in
-    rw (or-left (is-of file isn x) (any (is-of file isn) es) h, z) (seek-last file isn e es (from + 1) (or-right (is-of file isn x) (any (is-of file isn) es) h) t)
-
+-- and the new entry is found at the end
 pub holder-new : (words : List ℕ) (count : ℕ) (e : Entry) → Shape e → count < length words → holder (entries words count) (e .file) (e .isn) ≡ Free
     → holder (entries (append words count e) (count + 1)) (e .file) (e .isn) ≡ Held count e
-unfolding holder
 holder-new words count e s room free =
-    let here : is-of (e .file) (e .isn) e ≡ true = rw (eqb-self (e .file), eqb-self (e .isn)) in
-    let long : 0 + length (entries words count) ≡ count = omega (arith, length-entries words count) in
-    rw (entries-append words count e s room)
-    (seek-last (e .file) (e .isn) e (entries words count) 0 (free-none (e .file) (e .isn) (entries words count) free) here ∙ ap (λ n. Held n e) long)
+    rw (entries-append words count e s room) (holder-last (entries words count) e free ∙ ap (λ n. Held n e) (omega (arith, length-entries words count)))

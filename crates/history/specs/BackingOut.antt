@@ -4,38 +4,57 @@ use Prim.Native.Nat.{ℕ, _-_, _≤_}
 use native.Mathlib.Omega.{arith}
 use mathlib.Core.Path.{_≡_, refl, sym, ap, subst, _∙_}
 use mathlib.Core.Logic.{_≢_}
-use mathlib.Core.Bool.{true, false, not}
+use mathlib.Core.Bool.{Bool, true, false, not, _&&_}
 use mathlib.Core.List.{List, [], _∷_, map}
-use mathlib.Core.Option.{none}
 use lib.Dec.{eqb}
 use lib.Seq.{getD-set-other}
 use borrow.Author.Tests.{eqb-false, not-true}
 use Rattle.lists.specs.Tests.{within, within-least, and-left, and-right, or-left, or-right}
 use Rattle.lists.specs.Folds.{any, all, distinct}
+use Rattle.lists.specs.Sift.{sift, sift-sift, sift-ext}
 use Rattle.nucleus.specs.Commands.{command-of}
 use Rattle.nucleus.specs.Responses.{number}
 use Rattle.nucleus.specs.Nucleus.{Nucleus, Result, max-users}
 use Rattle.database.specs.Database.{Database, in-words, direct-call}
 use Rattle.nucleus.specs.Step.{step}
-use Rattle.claim.specs.Journal.{Journal, member, new-member, ended-member, has-start, in-transaction, struck, fed}
+use Rattle.nucleus.specs.declared.Command.the-variants.{Bt}
+use Rattle.claim.specs.Journal.{Journal, Member, Waiter, member, new-member, ended-member, has-start, in-transaction, with-holds, others, hold-of, struck-changes, struck, log-leave, log-left-by, log-handed, log-let-go, fed}
 use Rattle.claim.specs.Run.{World, BackOut, called, run, bt, back-outs, struck-all}
 use Rattle.claim.specs.Claim.{users-of, Chosen}
 use Rattle.claim.specs.Answers.{Answered, answers}
 use Rattle.claim.specs.Lent.{Lent, Alike}
 use Rattle.history.specs.Sizes.{alike-self, alike-then}
+use Rattle.history.specs.HandLogs.{spared-let-go}
 use Rattle.history.specs.Passing.{Passed}
+use Rattle.history.specs.Performing.{passed-left-by}
 use Rattle.history.specs.Stepping.{stepped}
 use Rattle.history.specs.EntryLists.{passed-called, queue-called}
 use Rattle.history.specs.Resting.{journal-rests, bt-good, inside}
 
 -- another user is in his transaction still
 still-in : (j : Journal) (u v : ℕ) → 1 ≤ u → eqb u v ≡ false → in-transaction j v ≡ true → in-transaction (struck u j) v ≡ true
-unfolding struck
+unfolding struck struck-changes log-leave
 still-in j u v least apart h =
     let v-in : within 1 max-users v ≡ true = and-left (within 1 max-users v) (has-start (member j v .start)) h in
     let ne : u ≡ v → ⊥ = eqb-false u v apart in
     let other : v - 1 ≢ u - 1 = λ e. ne (omega (arith, e, least, within-least 1 max-users v v-in)) in
-    rw (getD-set-other (j .members) (u - 1) (v - 1) (ended-member (member j u)) new-member other) h
+    let same : member (struck-changes u j) v ≡ member j v = getD-set-other (j .members) (u - 1) (v - 1) (ended-member (member j u)) new-member other in
+    let started : has-start (member (struck-changes u j) v .start) ≡ true = ap (λ (m : Member). has-start (m .start)) same ∙ and-right (within 1 max-users v) (has-start (member j v .start)) h in
+    rw v-in (ap (λ (m : Member). has-start (m .start)) (spared-let-go (hold-of u) (log-leave u (struck-changes u j)) .same-member v started) ∙ started)
+
+-- who has left the line leaves it no more
+struck-left : (u : ℕ) (j : Journal) → struck u (log-leave u j) ≡ struck u j
+unfolding struck struck-changes log-leave log-let-go
+struck-left u j = ap (λ (line : List Waiter). log-handed (sift (hold-of u) (j .holds)) (with-holds (sift (λ h. not (hold-of u h)) (j .holds)) line (struck-changes u j))) twice
+  where
+    both : (b : Bool) → (not b && not b) ≡ not b
+    both true = refl
+    both false = refl
+
+    twice : others u (others u (j .line)) ≡ others u (j .line)
+    twice =
+        sift-sift (λ w. not (eqb (w .user) u)) (λ w. not (eqb (w .user) u)) (j .line)
+        ∙ sift-ext (λ w. not (eqb (w .user) u) && not (eqb (w .user) u)) (λ w. not (eqb (w .user) u)) (λ w. both (eqb (w .user) u)) (j .line)
 
 all-still : (j : Journal) (u : ℕ) → 1 ≤ u → (us : List ℕ) → any (eqb u) us ≡ false → all (in-transaction j) us ≡ true → all (in-transaction (struck u j)) us ≡ true
 all-still j u least [] f h = refl
@@ -66,10 +85,11 @@ module _ (capacity : ℕ) (lent : Lent ℕ) where
     answered-zero = ap (λ c. eqb (number c) 0) (bt-good capacity lent n j p b active)
 
     struck-bt : fed-bt ≡ struck u j
-    unfolding fed command-of
+    unfolding fed command-of log-left-by
     struck-bt =
         ap (λ c. fed (bt b .call) (b .format) (b .buffer) (number c) (x .answer .isn) j) (bt-good capacity lent n j p b active)
-        ∙ ap (struck u) (journal-rests capacity lent n j p)
+        ∙ ap (struck u) (journal-rests capacity lent _ _ (passed-left-by capacity lent n j p Bt (bt b .call)))
+        ∙ struck-left u j
 
     passed-fed : Passed capacity lent (x .nucleus) fed-bt
     passed-fed = stepped capacity lent n j p (bt b .call) (b .format) (b .buffer) .passed

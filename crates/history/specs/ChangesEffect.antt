@@ -4,7 +4,7 @@
 use Prim.Native.Nat.{ℕ, _≤_, _<_}
 use mathlib.Core.Path.{_≡_, refl, sym, ap, subst, subst₂, _∙_}
 use mathlib.Core.Bool.{Bool, true, false, cond}
-use mathlib.Core.List.{List, map}
+use mathlib.Core.List.{List, [], map}
 use mathlib.Core.Option.{none, some}
 use lib.ListN.{length, getD}
 use lib.Seq.{map-set-same}
@@ -31,8 +31,12 @@ use Rattle.ground.specs.FirstChange.{queue-first-change}
 use Rattle.nucleus.specs.Nucleus.{Nucleus, Request, entries-of}
 use Rattle.nucleus.specs.Target.{store-with, file-place, file, part, record-at, holder-of, target-isn, new-record}
 use Rattle.nucleus.specs.Effects.{held, imaged-at, imaged, with-part-of, written, erased}
+use Rattle.claim.specs.Journal.{Journal, log-mark}
 use Rattle.claim.specs.Lent.{Lent}
 use Rattle.history.specs.Kept.{Sized, definition-of}
+use Rattle.history.specs.Lined.{Lined}
+use Rattle.history.specs.Lines.{lined-like}
+use Rattle.history.specs.LineChanges.{lined-imaged}
 use Rattle.history.specs.Sizes.{sized-put, sized-first-change}
 use Rattle.history.specs.Changes.{Aim, slot-is}
 
@@ -104,6 +108,8 @@ pub record Changed (capacity : ℕ) (lent : Lent ℕ) (r : Request) (n : Nucleus
       (with-hold (r .call .user) (key (r .call .file) (target-isn r n)) (queue-of (definition-of n) (n .queue) (n .images) (n .state .count)))
   pub sized : Sized capacity lent (definition-of n) (m .store) (m .queue) (m .images) (m .state .count)
   pub holds-same : map whose (entries-of m) ≡ map whose (entries-of (held r (target-isn r n) n))
+  -- the journal marks the hold as changed
+  pub lined : (i : Journal) → Lined [] (held r (target-isn r n) n) i → Lined [] m (log-mark (r .call .file) (target-isn r n) i)
 
 module _ (capacity : ℕ) (lent : Lent ℕ) (r : Request) (n : Nucleus) (t : Aim r n) (w : HeldHere capacity lent r n (target-isn r n)) where
   abbrev isn : ℕ
@@ -163,6 +169,7 @@ module _ (capacity : ℕ) (lent : Lent ℕ) (r : Request) (n : Nucleus) (t : Aim
     queue = image-queue;
     sized = rw (image-put x) (sized-put capacity lent (definition-of n) (n .store) (image .queue) (image .images) (image .state .count) image-sized k x);
     holds-same = whose-imaged capacity lent r h (w .sized) (t .at) isn (w .at) (w .entry) here-held (t .small) (w .found);
+    lined = λ i l. lined-like (lined-imaged l capacity (w .sized .made) r isn (w .found)) refl refl refl;
   }
 
   changed-slot : (x : Slot) → Changed capacity lent r n x (with-part-of r (put-in (file r n) (part r n) isn x) (imaged r isn n))

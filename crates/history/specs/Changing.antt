@@ -3,7 +3,7 @@
 use Prim.Native.Nat.{ℕ, _<_}
 use native.Mathlib.Omega.{arith}
 use mathlib.Core.Path.{_≡_, refl, sym, ap, subst, _∙_}
-use mathlib.Core.List.{List}
+use mathlib.Core.List.{List, []}
 use borrow.Author.Tests.{lt-ltb}
 use Rattle.lists.specs.Folds.{all-append}
 use Rattle.definition.specs.declared.Definition.{Definition}
@@ -17,17 +17,20 @@ use Rattle.nucleus.specs.Nucleus.{Nucleus, Request, entries-of}
 use Rattle.nucleus.specs.Target.{target-isn}
 use Rattle.nucleus.specs.Effects.{held}
 use Rattle.nucleus.specs.declared.User.{User}
-use Rattle.claim.specs.Journal.{Journal, log-start, log-change}
+use Rattle.claim.specs.Journal.{Journal, log-start, log-change, log-hold, log-mark, log-update}
 use Rattle.history.specs.Updates.{updates, logged}
 use Rattle.claim.specs.Lent.{Lent}
 use Rattle.history.specs.Kept.{Kept, Sized, People, Told, definition-of, ground-of, seen, active-in, change-sound}
 use Rattle.history.specs.Accepted.{Accepted}
+use Rattle.history.specs.Lined.{Lined}
+use Rattle.history.specs.Lines.{lined-journal}
+use Rattle.history.specs.Keeping.{kept-holds}
 use Rattle.history.specs.Logs.{logged-change}
 use Rattle.history.specs.Ends.{laws-of}
 use Rattle.history.specs.Passing.{Passed}
 use Rattle.history.specs.HoldMoves.{his-entry, held-definition, held-store, held-same, his-held, seen-held}
 use Rattle.history.specs.Holding.{Serving, Holdable, holdable-at, kept-held, held-active}
-use Rattle.history.specs.Performing.{rested-held}
+use Rattle.history.specs.Performing.{rested-held, lined-hold}
 use Rattle.history.specs.Changes.{Changes, Aim, aim}
 use Rattle.history.specs.ChangesLogged.{update-of, slot-of}
 use Rattle.history.specs.ChangesAllowed.{file-update, holds-record, machine-applied, change-allowed}
@@ -133,5 +136,17 @@ module _ (lent : Lent ℕ) (n : Nucleus) (j : Journal) (r : Request) (p : Passed
       invariant = subst (λ x. Invariant (ground x (updates x) (lent .store)) (record { store = m .store; queue = queue-of x (m .queue) (m .images) (m .state .count) }) (logged (told-now .changes))) (sym (ch .definition)) invariant-here;
     }
 
-    pub passed-changed : Passed capacity lent m told-now
-    passed-changed = record { kept = kept-changed; rested = rw (ch .clock, ch .users) (rested-held n (p .rested) r isn) }
+    -- the hold is the journal's too
+    abbrev noted : Journal
+    noted = log-update (r .call) isn (update-of r c) j
+
+    kept-noted : Kept capacity lent m noted
+    unfolding log-change log-mark log-hold log-start
+    kept-noted = kept-holds capacity lent m told-now kept-changed (noted .holds) (noted .line)
+
+    lined-noted : Lined [] m noted
+    unfolding log-change
+    lined-noted = lined-journal (ch .lined (log-hold u (r .call .file) isn j) (lined-hold capacity lent n j p r isn s holdable)) refl refl
+
+    pub passed-changed : Passed capacity lent m noted
+    passed-changed = record { kept = kept-noted; rested = rw (ch .clock, ch .users) (rested-held n (p .rested) r isn); lined = lined-noted }

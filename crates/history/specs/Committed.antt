@@ -3,12 +3,13 @@
 use Prim.Native.Nat.{ℕ, _<_}
 use native.Mathlib.Omega.{arith}
 use mathlib.Core.Path.{_≡_, refl, sym, ap, _∙_}
-use mathlib.Core.Bool.{Bool, true, false}
+use mathlib.Core.Bool.{Bool, true, false, not}
 use mathlib.Core.List.{List, [], _∷_}
 use mathlib.Core.Option.{Option, none}
 use lib.Dec.{eqb}
 use Rattle.lists.specs.Tests.{cond, or-true, Outcome, holds, fails, outcome, within, within-inside, within-least, within-most, not-both}
 use Rattle.lists.specs.Folds.{any, all}
+use Rattle.lists.specs.Sift.{sift}
 use Rattle.lists.specs.Every.{all-implies}
 use Rattle.definition.specs.Table.{file-at}
 use Rattle.definition.specs.Shape.{file-shape-at}
@@ -36,13 +37,14 @@ use Rattle.nucleus.specs.Rows.{rows-usable}
 use Rattle.nucleus.specs.Committed.{place-in, committed-place}
 use Rattle.database.specs.Database.{Database, in-words, direct-place, direct-part}
 use Rattle.database.specs.Committed.{absent-bytes, place-bytes}
-use Rattle.claim.specs.Journal.{Journal, struck}
+use Rattle.claim.specs.Journal.{Journal, strikes, hold-of, struck-changes, struck, log-leave}
 use Rattle.claim.specs.Run.{BackOut, back-outs, struck-all, record-in}
 use Rattle.claim.specs.Claim.{file-numbered, users-of}
 use Rattle.claim.specs.Statements.{Everyone, record-after, bytes-of}
 use Rattle.claim.specs.Lent.{Lent}
 use Rattle.history.specs.Updates.{updates, logged}
 use Rattle.history.specs.Logs.{logged-back-out}
+use Rattle.history.specs.HandLogs.{spared-let-go}
 use Rattle.history.specs.Kept.{Kept, definition-of, ground-of, seen, entry-active}
 use Rattle.history.specs.People.{transaction-is}
 use Rattle.history.specs.Passing.{Passed}
@@ -88,11 +90,16 @@ module _ (d : Definition) (lent : List ℕ) (k : ℕ) where
   abbrev G : Ground
   G = ground d (updates d) lent
 
+  -- what is handed over changes nothing
+  struck-told : (u : ℕ) (j : Journal) → struck u j .changes ≡ sift (λ c. not (strikes u c)) (j .changes)
+  unfolding struck struck-changes log-leave
+  struck-told u j = spared-let-go (hold-of u) (log-leave u (struck-changes u j)) .same-changes
+
   told-out : (bs : List BackOut) (j : Journal) → told G (out bs) k (logged (j .changes)) ≡ told G stay k (logged (struck-all bs j .changes))
-  unfolding struck
   told-out [] j = refl
   told-out (b ∷ bs) j =
-      sym (told-back-out G (out bs) k (b .user) (logged (j .changes))) ∙ ap (told G (out bs) k) (logged-back-out d lent (b .user) (j .changes))
+      sym (told-back-out G (out bs) k (b .user) (logged (j .changes)))
+      ∙ ap (told G (out bs) k) (logged-back-out d lent (b .user) (j .changes) ∙ ap logged (sym (struck-told (b .user) j)))
       ∙ told-out bs (struck (b .user) j)
 
 module _ (capacity : ℕ) (lent : Lent ℕ) (b : Database) (j : Journal) (p : Passed capacity lent (in-words capacity b) j) (file isn : ℕ) where
@@ -118,7 +125,7 @@ module _ (capacity : ℕ) (lent : Lent ℕ) (b : Database) (j : Journal) (p : Pa
   pub part-bytes : direct-part capacity b file isn ≡ bytes-of (committed-of n file isn)
   unfolding direct-place committed-place rows-usable bytes-at
   part-bytes =
-      rw (k .sized .valid, long-kept capacity lent n j k, well-made-kept capacity lent n j k) (go (place d file) (outcome (inside (place d file))))
+      rw (k .sized .valid, long-kept capacity lent n j k, well-made-kept capacity lent n j k (p .lined)) (go (place d file) (outcome (inside (place d file))))
     where
       go : (x : Found) → Outcome (inside x) → bytes-at (place-in n file isn x) (n .store) (n .images) ≡ bytes-of (committed x)
       go (At i) (holds t) =

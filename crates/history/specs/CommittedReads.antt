@@ -5,23 +5,24 @@ use Prim.Native.Nat.{ℕ}
 use native.Mathlib.Omega.{arith}
 use mathlib.Core.Path.{_≡_, refl, sym, ap, subst, _∙_}
 use mathlib.Core.Bool.{Bool, true, false, not, _&&_, _||_}
-use mathlib.Core.List.{List, [], _∷_}
+use mathlib.Core.List.{List}
 use mathlib.Core.Option.{Option, none, some}
 use lib.Dec.{eqb}
 use borrow.Author.Tests.{eqb-false, not-false, not-true}
-use Rattle.lists.specs.Tests.{Outcome, holds, fails, outcome, within, not-both, and-left, and-right, or-left, or-true, eqb-self}
-use Rattle.lists.specs.Folds.{any, all}
+use Rattle.lists.specs.Tests.{cond, Outcome, holds, fails, outcome, within, not-both, and-left, and-right, or-left}
+use Rattle.lists.specs.Folds.{all}
 use Rattle.entries.specs.declared.Entry.{Entry}
 use Rattle.committed.specs.Committed.{committed-version, version-there, version-bytes}
 use Rattle.nucleus.specs.Commands.{direct-commands, command-of, option-C}
-use Rattle.nucleus.specs.Responses.{number}
-use Rattle.nucleus.specs.Nucleus.{Nucleus, Given, Request, request, Result, entries-of, width-of, change-user}
+use Rattle.nucleus.specs.Responses.{number, waiting-number}
+use Rattle.nucleus.specs.Nucleus.{Nucleus, Given, Request, request, Result, result, entries-of, width-of, change-user}
 use Rattle.nucleus.specs.Users.{opened}
 use Rattle.nucleus.specs.Clock.{clocked}
+use Rattle.nucleus.specs.Waiters.{joined-line, change-line, left-by, let-go, lets-go, handed}
 use Rattle.nucleus.specs.Target.{file, part, target, target-isn, version-read}
 use Rattle.nucleus.specs.Rows.{Row, first-cause, rows-usable, rows-understood, rows-after-clock, rows-after-session, rows-last, isn-invalid, presence-refused}
 use Rattle.nucleus.specs.Effects.{effect, effect-at}
-use Rattle.nucleus.specs.Step.{Admission, turned-away, let-in, unless-refused, notified, admitted-session, admitted-user, admitted, refusal, unless, perform, serve, step}
+use Rattle.nucleus.specs.Step.{Admission, turned-away, let-in, unless-refused, notified, admitted-session, admitted-user, admitted, refusal, unless, perform, after-line, serve, step}
 use Rattle.nucleus.specs.declared.Call.{Call}
 use Rattle.nucleus.specs.declared.Command.{Command}
 use Rattle.nucleus.specs.declared.Command.the-variants.{L1}
@@ -31,7 +32,7 @@ use Rattle.claim.specs.Run.{World, BackOut, call-given, called}
 use Rattle.claim.specs.Statements.{Everyone, record-after, is-record, IsCommittedRead, Reads}
 use Rattle.claim.specs.Lent.{Lent}
 use Rattle.history.specs.Kept.{definition-of}
-use Rattle.history.specs.Accepted.{is-cause, Accepted, accepted}
+use Rattle.history.specs.Accepted.{is-cause, first-holds, Accepted, accepted}
 use Rattle.history.specs.Passing.{Passed}
 use Rattle.history.specs.Serving.{first-such}
 use Rattle.history.specs.EntryLists.{passed-called, entries-called}
@@ -56,24 +57,11 @@ module _ (c : Command) where
   ended : (capacity : ℕ) (call : Call) (n : Nucleus) → command-of direct-commands (call .command) ≡ some c → Ended c (admitted direct-commands capacity call n)
   unfolding admitted admitted-user admitted-session rows-usable rows-understood
   ended capacity call n known =
-      let m = clocked (call .clock) n in
+      let m = clocked (call .clock) (left-by c call n) in
       let o = change-user (call .user) opened m in
       ended-rows (rows-usable capacity n) refl n _
       (ended-rows (rows-understood direct-commands call) refl n _
       (rw known (ended-rows (rows-after-clock c call m) refl (notified c call m) _ (ended-rows (rows-after-session c call o) refl o _ (comes-in o)))))
-
--- ---- the row of the first cause holds
-first-holds : (k : ℕ) (rs : List Row) (c : Response) → first-cause rs ≡ some c → number c ≡ k → any (λ (r : Row). eqb (number (r .cause)) k && r .holds) rs ≡ true
-first-holds k [] c e same = not-both false (ap is-cause e) refl
-first-holds k (r ∷ rs) c e same = go (outcome (r .holds)) (first-holds k rs c)
-  where
-    go : Outcome (r .holds) → (first-cause rs ≡ some c → number c ≡ k → any (λ (x : Row). eqb (number (x .cause)) k && x .holds) rs ≡ true)
-        → any (λ (x : Row). eqb (number (x .cause)) k && x .holds) (r ∷ rs) ≡ true
-    go (holds t) later =
-        let first : r .cause ≡ c = cc (rw t at e) in
-        let here : eqb (number (r .cause)) k ≡ true = rw (first, same) (eqb-self k) in
-        rw (here, t)
-    go (fails t) later = rw (later (rw t at e) same) (or-true (eqb (number (r .cause)) k && r .holds))
 
 -- ---- let in
 -- what a call answers is so of the nucleus that it leaves
@@ -155,6 +143,23 @@ module _ (capacity : ℕ) (g : Given) (option : g .call .option ≡ option-C) (q
             not-there = λ z. absurd (omega (arith, z));
           }
 
+  -- the line is not read
+  reads-after : (x : Result) → ReadsLeft capacity queue g x → ReadsLeft capacity queue g (after-line r n x)
+  unfolding after-line
+  reads-after x q = go (eqb (number (x .answer .response)) waiting-number) (eqb (number (x .answer .response)) 0)
+    where
+      m : Nucleus
+      m = x .nucleus
+
+      as-read : ReadsLeft capacity queue g (result (x .answer) m (x .buffer))
+      as-read = record { there = q .there; fields-read = q .fields-read; not-there = q .not-there }
+
+      go : (joins good : Bool)
+          → ReadsLeft capacity queue g (result (x .answer) (cond joins (change-line (joined-line L1 (g .call)) m) (cond (good && false) (handed (let-go (lets-go L1 (g .call)) n) m) m)) (x .buffer))
+      go true good = record { there = q .there; fields-read = q .fields-read; not-there = q .not-there }
+      go false true = as-read
+      go false false = as-read
+
 -- ---- the whole call
 module _ (capacity : ℕ) (g : Given) (committed : IsCommittedRead g) (queue : List Entry) where
   reads-ended : (a : Admission) → Ended L1 a → ReadsLeft capacity queue g (serve a capacity (g .call) (g .format) (g .buffer))
@@ -166,7 +171,7 @@ module _ (capacity : ℕ) (g : Given) (committed : IsCommittedRead g) (queue : L
         fields-read = λ z. absurd (eqb-false (number cause) 0 zero z);
         not-there = λ z. absurd (eqb-false (number cause) 113 missing z);
       }
-  reads-ended _ (comes-in n) = reads-performed capacity g (committed .option) queue n
+  reads-ended _ (comes-in n) = reads-after capacity g (committed .option) queue n _ (reads-performed capacity g (committed .option) queue n)
 
   reads-step : (n : Nucleus) → ReadsLeft capacity queue g (step capacity (g .call) (g .format) (g .buffer) n)
   unfolding step command-of

@@ -4,7 +4,6 @@ use Prim.Native.Nat.{ℕ, _-_, _≤_}
 use mathlib.Core.Path.{_≡_, refl, sym, ap, _∙_}
 use mathlib.Core.Bool.{true, false, not, _&&_}
 use mathlib.Core.List.{List, map}
-use mathlib.Core.Option.{none}
 use lib.Dec.{eqb}
 use lib.ListN.{length, set, length-set}
 use borrow.Author.Tests.{not-true}
@@ -24,7 +23,7 @@ use Rattle.nucleus.specs.Nucleus.{Nucleus, max-users, user-of, with-user, with-
 use Rattle.nucleus.specs.Clock.{removed, with-restored, backed-out}
 use Rattle.nucleus.specs.declared.User.{User}
 use Rattle.lists.specs.Every.{all-implies, all-set}
-use Rattle.claim.specs.Journal.{Journal, Change, member, ended-member, strikes, commits, struck, log-end}
+use Rattle.claim.specs.Journal.{Journal, Change, member, ended-member, strikes, commits, struck-changes, log-end}
 use Rattle.history.specs.Updates.{updates, logged}
 use Rattle.claim.specs.Lent.{Lent}
 use Rattle.history.specs.Kept.{Kept, Sized, People, Told, definition-of, ground-of, seen, user-sound, entry-active, change-sound, member-of}
@@ -66,8 +65,8 @@ module _ (clock : ℕ) (us : List User) (u : ℕ) (least : 1 ≤ u) (most : u �
     told-members : set (j .members) (u - 1) (ended-member (member j u)) ≡ map member-of us′
     told-members = ap (set (j .members) (u - 1)) (sym same) ∙ ap (λ ms. set ms (u - 1) (member-of x)) (t .same-members) ∙ sym (members-set us full u least most x)
 
-    pub told-struck : Told clock us′ (struck u j)
-    unfolding struck
+    pub told-struck : Told clock us′ (struck-changes u j)
+    unfolding struck-changes
     told-struck = record {
       same-clock = t .same-clock;
       same-members = told-members;
@@ -113,8 +112,8 @@ module _ (capacity : ℕ) (lent : Lent ℕ) (n : Nucleus) (j : Journal) (k : Kep
     }
 
     -- a back-out
-    pub kept-out : Kept capacity lent (with-state (with-user u x (removed (All u) (with-restored u n) .state)) (removed (All u) (with-restored u n))) (struck u j)
-    unfolding removed struck
+    pub kept-out : Kept capacity lent (with-state (with-user u x (removed (All u) (with-restored u n) .state)) (removed (All u) (with-restored u n))) (struck-changes u j)
+    unfolding removed struck-changes
     kept-out = record {
       sized = sized-removed capacity lent d _ (n .queue) (n .images) (n .state .count) (sized-restored capacity lent d (n .store) (n .queue) (n .images) (n .state .count) (k .sized) u) (All u);
       people = rw (entries-removed n capacity (k .sized .made) (All u)) (people-ended (n .state .clock) (n .state .users) u least most x (k .people .user-count) idle unready (entries-of n) (k .people));
@@ -131,7 +130,7 @@ module _ (capacity : ℕ) (lent : Lent ℕ) (n : Nucleus) (j : Journal) (k : Kep
       → member-of x ≡ ended-member (member j u)
   idle-member x idle session limit = rw (member-is (n .state .users) u j (k .told .same-members), idle, session, limit)
 
-  -- BT, a forced back-out, and the clock's
-  pub kept-backed-out : Kept capacity lent (backed-out u n) (struck u j)
+  -- BT, a forced back-out, and the clock's, but for the line and what is handed over
+  pub kept-backed-out : Kept capacity lent (backed-out u n) (struck-changes u j)
   unfolding backed-out removed
   kept-backed-out = kept-out (ended (user-of n u)) refl refl (idle-member (ended (user-of n u)) refl refl refl)

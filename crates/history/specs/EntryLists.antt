@@ -3,7 +3,7 @@
 -- Assumes nothing.
 use Prim.Native.Nat.{ℕ, _≤_}
 use native.Mathlib.Omega.{arith}
-use mathlib.Core.Path.{_≡_, sym, ap, subst, _∙_}
+use mathlib.Core.Path.{_≡_, refl, sym, ap, subst, _∙_}
 use mathlib.Core.Bool.{true, false}
 use mathlib.Core.List.{List, map}
 use lib.ListN.{length, take, drop, length-map, length-take, drop-of-length-le}
@@ -27,8 +27,9 @@ use Rattle.claim.specs.Lent.{Lent, Alike}
 use Rattle.claim.specs.Statements.{unusable}
 use Rattle.history.specs.Sizes.{alike-self}
 use Rattle.history.specs.Kept.{definition-of, Kept}
+use Rattle.history.specs.Lines.{lined-like}
 use Rattle.history.specs.Passing.{Passed}
-use Rattle.history.specs.SetUpKept.{kept-set-up, rested-set-up, set-up-touches}
+use Rattle.history.specs.SetUpKept.{kept-set-up, rested-set-up, lined-set-up, set-up-touches}
 use Rattle.history.specs.Stepping.{Stepped, stepped}
 
 -- ---- another queue, with the same entries in use
@@ -73,6 +74,7 @@ module _ (capacity : ℕ) (lent : Lent ℕ) (n : Nucleus) (j : Journal) (p : Pas
       invariant = rw queue-same (k .invariant);
     };
     rested = p .rested;
+    lined = lined-like (p .lined) same refl refl;
   }
 
 -- ---- a call
@@ -167,6 +169,7 @@ module _ (capacity : ℕ) (table store : List ℕ) (queue : List Entry) (images 
   start = record {
     kept = kept-set-up capacity store (map pack-of queue) images table answered;
     rested = rested-set-up capacity store (map pack-of queue) images table answered;
+    lined = lined-set-up capacity store (map pack-of queue) images table answered;
   }
 
   same-queue : n .queue ≡ map pack-of queue

@@ -28,12 +28,11 @@ use Rattle.history.specs.Updates.{logged}
 use Rattle.claim.specs.Lent.{Lent}
 use Rattle.history.specs.Kept.{Kept, People, definition-of, ground-of, seen, user-sound, active-in, entry-active, member-of, start-of}
 use Rattle.history.specs.People.{sound-active, active-own, member-is}
-use Rattle.history.specs.Keeping.{people-user, told-user, same-member}
+use Rattle.history.specs.Keeping.{user-known, people-user, told-user, same-member}
 use Rattle.history.specs.Sizes.{sized-append}
 use Rattle.history.specs.Accepted.{Accepted}
 use Rattle.history.specs.Changes.{Aim, rest-fails}
 use Rattle.history.specs.Ends.{laws-of}
-use Rattle.history.specs.Passing.{user-known}
 use Rattle.history.specs.QueueMoves.{queue-seen}
 use Rattle.history.specs.HoldMoves.{his-entry, nobodys, held-anew, held-his, held-new, new-shape, hold-allowed, entries-anew, seen-anew}
 
@@ -165,12 +164,15 @@ module _ (capacity : ℕ) (lent : Lent ℕ) (n : Nucleus) (j : Journal) (k : Kep
           rw (seen-anew n capacity (k .sized .made) (k .sized .shape) r isn (h .small) (h .inside) small-user (h .mine) (h .room) none-his) kept-hold;
     }
 
+    pub kept-anew : Kept capacity lent (held-anew r isn n) (log-start u j)
+    kept-anew = rw log-start-is anew
+
   pub kept-held : Kept capacity lent (held r isn n) (log-start u j)
   kept-held = go (outcome (is-holder u (holder-of r n isn)))
     where
       go : Outcome (is-holder u (holder-of r n isn)) → Kept capacity lent (held r isn n) (log-start u j)
       go (holds his) = rw (held-his r isn n his, log-start-same (has-entry his)) k
-      go (fails new) = rw (held-new r isn n new, log-start-is) (anew new)
+      go (fails new) = rw (held-new r isn n new) (kept-anew new)
 
   -- the caller is in a transaction then
   pub held-active : active-in (held r isn n .state .users) u ≡ true

@@ -1,4 +1,4 @@
--- What is kept where a call changes a user, ET data, an ISN that N1 last gave or the clock, and neither store, queue nor images.
+-- What is kept where a call changes a user, ET data, an ISN that N1 last gave, the clock or the line, and neither store, queue nor images.
 -- Assumes nothing.
 use Prim.Native.Nat.{ℕ, zero, suc, _-_, _≤_, _<_}
 use mathlib.Core.Path.{_≡_, refl, sym, ap, _∙_}
@@ -12,13 +12,14 @@ use Rattle.lists.specs.Tests.{and-left, and-right}
 use Rattle.definition.specs.Table.{beyond, file-at, file-count, files-of}
 use Rattle.definition.specs.declared.File.{File}
 use Rattle.entries.specs.declared.Entry.{Entry}
-use Rattle.nucleus.specs.Users.{is-active}
-use Rattle.nucleus.specs.Nucleus.{Nucleus, max-users, user-of, with-user, with-data, with-last-assigned, with-clock, with-state, entries-of}
+use Rattle.nucleus.specs.Users.{fresh-user, is-active}
+use Rattle.nucleus.specs.Nucleus.{Nucleus, max-users, user-of, with-user, with-data, with-last-assigned, with-clock, with-wait-queue, with-state, entries-of}
 use Rattle.nucleus.specs.WellMade.{assigned-made, data-made}
 use Rattle.nucleus.specs.declared.User.{User}
 use Rattle.nucleus.specs.declared.EtData.{EtData}
-use Rattle.lists.specs.Every.{all-implies, all-set}
-use Rattle.claim.specs.Journal.{Journal, new-member, with-member}
+use Rattle.nucleus.specs.declared.WaitQueue.{WaitQueue}
+use Rattle.lists.specs.Every.{all-implies, all-set, all-getD}
+use Rattle.claim.specs.Journal.{Journal, Hold, Waiter, new-member, with-member, with-holds}
 use Rattle.claim.specs.Lent.{Lent}
 use Rattle.history.specs.Kept.{Kept, People, Told, definition-of, user-sound, active-in, entry-active, change-sound, member-of, one-of-users}
 use Rattle.history.specs.People.{change-isn, change-active, sound-change, sound-later, active-kept, members-set, member-is}
@@ -50,7 +51,7 @@ module _ (clock : ℕ) (us : List User) (u : ℕ) (least : 1 ≤ u) (most : u �
 -- a member that is set to what it is
 pub same-member : (us : List User) (u : ℕ) (j : Journal) → j .members ≡ map member-of us → (x : User) → member-of x ≡ member-of (one-of-users us u) → with-member u (member-of x) j ≡ j
 same-member us u j h x like =
-    ap (λ ms. record { clock = j .clock; members = ms; changes = j .changes })
+    ap (λ ms. record { clock = j .clock; members = ms; changes = j .changes; holds = j .holds; line = j .line })
     (ap (set (j .members) (u - 1)) (like ∙ sym (member-is us u j h)) ∙ set-getD (j .members) (u - 1) new-member)
 
 assigned-set : (isns : List ℕ) (fs : List File) (i isn : ℕ) → assigned-made isns fs ≡ true → isn ≤ getD fs i beyond .«max_isn» → assigned-made (set isns i isn) fs ≡ true
@@ -61,6 +62,9 @@ assigned-set (a ∷ isns) (f ∷ fs) (suc i) isn h m =
     rw (and-left (leb a (f .«max_isn»)) (assigned-made isns fs) h) (assigned-set isns fs i isn (and-right (leb a (f .«max_isn»)) (assigned-made isns fs) h) m)
 
 module _ (capacity : ℕ) (lent : Lent ℕ) (n : Nucleus) (j : Journal) (k : Kept capacity lent n j) where
+  pub user-known : (u : ℕ) → user-sound (n .state .clock) (user-of n u) ≡ true
+  user-known u = all-getD (user-sound (n .state .clock)) (n .state .users) (u - 1) fresh-user (k .people .users-sound) refl
+
   module _ (u : ℕ) (least : 1 ≤ u) (most : u ≤ max-users) (x : User) (sound : user-sound (n .state .clock) x ≡ true) (same : is-active x ≡ is-active (user-of n u)) where
     -- a user becomes another value; he stays in his transaction, or out of one
     pub kept-user : Kept capacity lent (with-state (with-user u x (n .state)) n) (with-member u (member-of x) j)
@@ -100,9 +104,30 @@ module _ (capacity : ℕ) (lent : Lent ℕ) (n : Nucleus) (j : Journal) (k : Kep
     invariant = k .invariant;
   }
 
+  -- who waits, and what the journal has of holds and lines
+  pub kept-line : (line : WaitQueue) → Kept capacity lent (with-state (with-wait-queue line (n .state)) n) j
+  kept-line line = record {
+    sized = k .sized;
+    people = k .people;
+    assigned-sound = k .assigned-sound;
+    data-sound = k .data-sound;
+    told = k .told;
+    invariant = k .invariant;
+  }
+
+  pub kept-holds : (holds : List Hold) (line : List Waiter) → Kept capacity lent n (with-holds holds line j)
+  kept-holds holds line = record {
+    sized = k .sized;
+    people = k .people;
+    assigned-sound = k .assigned-sound;
+    data-sound = k .data-sound;
+    told = record { same-clock = k .told .same-clock; same-members = k .told .same-members; changes-sound = k .told .changes-sound };
+    invariant = k .invariant;
+  }
+
   -- a clock that is not earlier
   pub kept-clock : (clock : ℕ) → n .state .clock ≤ clock
-      → Kept capacity lent (with-state (with-clock clock (n .state)) n) (record { clock = clock; members = j .members; changes = j .changes })
+      → Kept capacity lent (with-state (with-clock clock (n .state)) n) (record { clock = clock; members = j .members; changes = j .changes; holds = j .holds; line = j .line })
   kept-clock clock later = record {
     sized = k .sized;
     people = record {

@@ -3,14 +3,14 @@
 -- Assumes nothing.
 use Prim.Native.Nat.{ℕ}
 use native.Mathlib.Omega.{arith}
-use mathlib.Core.Path.{_≡_, refl, sym, ap, _∙_}
+use mathlib.Core.Path.{_≡_, refl, ap, _∙_}
 use mathlib.Core.Bool.{Bool, true, false, not, _&&_, _||_}
 use mathlib.Core.List.{List, [], _∷_}
 use mathlib.Core.Option.{Option, none, some}
-use lib.Dec.{ltb}
+use lib.Dec.{eqb, ltb}
 use lib.ListN.{length}
 use borrow.Author.Tests.{le-ltb, not-false}
-use Rattle.lists.specs.Tests.{and-false, or-left}
+use Rattle.lists.specs.Tests.{cond, and-false, or-left}
 use Rattle.lists.specs.Folds.{any-none}
 use Rattle.lists.specs.Numbers.{numbers}
 use Rattle.definition.specs.Table.{field-at, field-count, is-unique}
@@ -29,12 +29,13 @@ use Rattle.queue.specs.declared.Lookup.{Lookup}
 use Rattle.queue.specs.declared.Lookup.the-variants.{Held, Free}
 use Rattle.committed.specs.Committed.{version-there, version-bytes}
 use Rattle.nucleus.specs.Commands.{direct-commands, one-of, on-record, reading-committed, naming, bringing-values}
-use Rattle.nucleus.specs.Responses.{good}
-use Rattle.nucleus.specs.Nucleus.{Nucleus, Request, request, max-et-data, data-at, width-of, with-store}
+use Rattle.nucleus.specs.Responses.{number, waiting-number, good}
+use Rattle.nucleus.specs.Nucleus.{Nucleus, Request, request, Result, max-et-data, data-at, width-of, with-store}
 use Rattle.nucleus.specs.Target.{part-in, store-with, command-in, file-place, file, part, record-at, holder-of, target-isn, version-read, new-record}
 use Rattle.nucleus.specs.Rows.{first-cause, rows-last, format-refused, field-twice, record-length-refused, value-refused, presence-refused, judged, is-taken, value-taken}
 use Rattle.nucleus.specs.Effects.{held, imaged-at, imaged, with-part-of, written, leaving, read-at, effect, effect-at}
-use Rattle.nucleus.specs.Step.{admitted, let-in, refusal, unless, perform, step}
+use Rattle.nucleus.specs.Waiters.{joined-line, change-line, let-go, lets-go, handed}
+use Rattle.nucleus.specs.Step.{admitted, let-in, refusal, unless, perform, after-line, step}
 use Rattle.nucleus.specs.declared.Call.{Call}
 use Rattle.nucleus.specs.declared.Command.the-variants.{L1, L4, A1, N2, Et, Re}
 use Rattle.nucleus.specs.declared.Response.{Response}
@@ -157,7 +158,19 @@ replaced-alone f format values alone none = refl
 replaced-alone f format values alone (some r) = ap some (write-none f format (alone-places f format alone) values r)
 
 -- ---- a whole call that comes so far: no byte is changed of the store that the clock and the session left
+-- nor by the line; A1 lets nothing go
+line-store : (r : Request) (n : Nucleus) (x : Result) → r .command ≡ A1 → after-line r n x .nucleus .store ≡ x .nucleus .store
+unfolding after-line
+line-store r n x c = rw c (go (eqb (number (x .answer .response)) waiting-number) (eqb (number (x .answer .response)) 0))
+  where
+    go : (joins good : Bool) → cond joins (change-line (joined-line A1 (r .call)) (x .nucleus)) (cond (good && false) (handed (let-go (lets-go A1 (r .call)) n) (x .nucleus)) (x .nucleus)) .store ≡ x .nucleus .store
+    go true good = refl
+    go false true = refl
+    go false false = refl
+
 pub call-changes-no-byte : (capacity : ℕ) (call : Call) (format buffer : List ℕ) (n m : Nucleus) → period-alone format ≡ true
     → admitted direct-commands capacity call n ≡ let-in A1 m → step capacity call format buffer n .nucleus .store ≡ m .store
 unfolding step
-call-changes-no-byte capacity call format buffer n m alone e = rw e (no-byte-changed (request capacity A1 call format buffer) m alone refl)
+call-changes-no-byte capacity call format buffer n m alone e =
+    let r = request capacity A1 call format buffer in
+    rw e (line-store r m (perform r m) refl ∙ no-byte-changed r m alone refl)

@@ -2,17 +2,17 @@
 -- Assumes nothing.
 use Prim.Native.Nat.{ℕ, _-_, _≤_}
 use native.Mathlib.Omega.{arith}
-use mathlib.Core.Path.{_≡_, ap, _∙_}
+use mathlib.Core.Path.{_≡_, sym, ap, _∙_}
 use mathlib.Core.Bool.{true, false, not, _&&_, _||_}
 use mathlib.Core.List.{List, map}
 use lib.Dec.{eqb, leb, ltb}
 use lib.ListN.{length, set, List·getD-map}
 use lib.Seq.{getD-set-same, getD-set-other}
-use borrow.Author.Tests.{eqb-true, eqb-false, leb-true, le-leb, not-true}
-use Rattle.lists.specs.Tests.{or-true, within, within-inside, within-least, Outcome, holds, fails, outcome, and-left, and-right}
+use borrow.Author.Tests.{eqb-true, eqb-false, leb-true, le-leb, le-ltb, not-true}
+use Rattle.lists.specs.Tests.{within, within-inside, within-least, Outcome, holds, fails, outcome, and-left, and-right}
 use Rattle.lists.specs.Maps.{map-set}
 use Rattle.ground.specs.Keys.{isn-bound}
-use Rattle.nucleus.specs.Users.{fresh-user, is-active, is-ready}
+use Rattle.nucleus.specs.Users.{fresh-user, is-active, is-ready, is-due, started}
 use Rattle.nucleus.specs.Nucleus.{max-users}
 use Rattle.nucleus.specs.declared.User.{User}
 use Rattle.claim.specs.Journal.{Journal, Member, member, has-start, in-transaction, Change}
@@ -55,6 +55,14 @@ sound-later clock later m u h = go (outcome (is-active u))
         let k = active-sound clock u h a in
         sound-active later u a (record { session = k .session; begun = omega (arith, k .begun, m); not-overdue = k .not-overdue; changing = k .changing })
     go (fails a) = sound-idle later u a (idle-sound clock u h a)
+
+-- a transaction that begins now
+pub started-quiet : (clock : ℕ) (u : User) → is-due clock u ≡ false → is-due clock (started clock u) ≡ false
+started-quiet clock u h = go (outcome (is-active u))
+  where
+    go : Outcome (is-active u) → is-due clock (started clock u) ≡ false
+    go (holds a) = rw a (rw a at h)
+    go (fails a) = rw a (le-ltb (u .«time_limit») (clock - clock) (omega arith))
 
 -- ---- one change
 -- its ISN, and whose it is while it is open
@@ -122,3 +130,10 @@ start-is x = go (outcome (is-active x))
 
 pub transaction-is : (us : List User) (u : ℕ) (j : Journal) → j .members ≡ map member-of us → in-transaction j u ≡ active-in us u
 transaction-is us u j h = ap (λ b. within 1 max-users u && b) (ap (λ (m : Member). has-start (m .start)) (member-is us u j h) ∙ start-is (one-of-users us u))
+
+-- whoever is ready is in one
+pub ready-started : (us : List User) (u : ℕ) (j : Journal) → j .members ≡ map member-of us → member j u .ready ≡ true → has-start (member j u .start) ≡ true
+ready-started us u j h ready =
+    let x = one-of-users us u in
+    let active : is-active x ≡ true = and-left (is-active x) (is-ready x) (sym (ap (λ (m : Member). m .ready) (member-is us u j h)) ∙ ready) in
+    ap (λ (m : Member). has-start (m .start)) (member-is us u j h) ∙ start-is x ∙ active

@@ -40,6 +40,8 @@ use Rattle.history.specs.ReadShape.{read-shape}
 use Rattle.claim.specs.Lent.{Lent, Alike}
 use Rattle.history.specs.Sizes.{alike-self}
 use Rattle.history.specs.Kept.{seen, ground-of, Kept, Rested}
+use Rattle.history.specs.Lined.{Lined}
+use Rattle.history.specs.Lines.{lined-fresh}
 
 -- ---- no buffer too short
 record Long (d : Definition) (capacity : ℕ) (store queue images : List ℕ) : Type 0 where
@@ -176,6 +178,9 @@ module _ (capacity : ℕ) (store queue images : List ℕ) where
 
       pub kept-set-up : Kept capacity (lent d) n new-journal
       kept-set-up = by-fresh (λ m. Kept capacity (lent d) m new-journal) (kept-fresh d (read-shape table))
+
+      pub lined-set-up : Lined [] n new-journal
+      lined-set-up = by-fresh (λ m. Lined [] m new-journal) (λ v long. lined-fresh d (fresh-store d store) queue images)
 
       pub rested-set-up : Rested n
       rested-set-up = by-fresh Rested (λ v long. refl)

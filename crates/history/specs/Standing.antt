@@ -3,6 +3,7 @@
 use Prim.Native.Nat.{ℕ, _*_, _<_}
 use mathlib.Core.Path.{_≡_}
 use mathlib.Core.Bool.{true, false}
+use mathlib.Core.List.{[]}
 use lib.ListN.{length, getD}
 use borrow.Author.Tests.{le-leb, le-ltb}
 use Rattle.lists.specs.Tests.{Outcome, holds, fails, outcome}
@@ -22,6 +23,8 @@ use Rattle.lists.specs.Every.{all-implies, all-index}
 use Rattle.claim.specs.Journal.{Journal}
 use Rattle.claim.specs.Lent.{Lent}
 use Rattle.history.specs.Kept.{Kept, definition-of, user-sound, entry-active}
+use Rattle.history.specs.Lined.{Lined}
+use Rattle.history.specs.Lines.{lined-few, waiters-made}
 use Rattle.history.specs.People.{active-sound, idle-sound}
 
 -- an entry of the table is within its file
@@ -49,9 +52,9 @@ module _ (capacity : ℕ) (lent : Lent ℕ) (n : Nucleus) (j : Journal) (k : Kep
           rw inside (all-at (entry-active (n .state .users)) (entries-of n) no-entry (k .people .entries-active) i h)
 
   -- not 12
-  pub well-made-kept : well-made capacity n ≡ true
+  pub well-made-kept : Lined [] n j → well-made capacity n ≡ true
   unfolding well-made
-  well-made-kept = rw (
+  well-made-kept l = rw (
     k .sized .valid,
     le-leb (n .state .count) capacity (k .sized .made .most),
     k .sized .made .single,
@@ -59,6 +62,8 @@ module _ (capacity : ℕ) (lent : Lent ℕ) (n : Nucleus) (j : Journal) (k : Kep
     all-implies (user-sound (n .state .clock)) (user-made (n .state .clock)) (made-of-sound (n .state .clock)) (n .state .users) (k .people .users-sound),
     k .assigned-sound,
     k .data-sound,
+    lined-few l,
+    waiters-made l,
   )
 
   -- not 11

@@ -16,31 +16,32 @@ use Rattle.lists.specs.Folds.{any}
 use Rattle.lists.specs.Numbers.{numbers, in-numbers}
 use Rattle.lists.specs.Sift.{sift, sift-map, any-sift, all-sift, distinct-sift, elem-both}
 use Rattle.definition.specs.declared.Definition.{Definition}
-use Rattle.nucleus.specs.Commands.{code, command-of, has-option}
+use Rattle.nucleus.specs.Commands.{direct-commands, code, command-of, has-option}
 use Rattle.nucleus.specs.Users.{is-active, is-ready}
 use Rattle.nucleus.specs.Responses.{number}
 use Rattle.nucleus.specs.Nucleus.{Nucleus, Given, max-users, user-of}
-use Rattle.nucleus.specs.Clock.{clocked}
 use Rattle.entries.specs.declared.Entry.{Entry}
 use Rattle.database.specs.Database.{in-words, direct-call, set-up-database}
 use Rattle.nucleus.specs.declared.Call.{Call}
-use Rattle.nucleus.specs.declared.Command.the-variants.{Et, Bt, Pe}
+use Rattle.nucleus.specs.declared.Command.{Command}
+use Rattle.nucleus.specs.declared.Command.the-variants.{N1, N2, Et, Bt, Pe}
 use Rattle.nucleus.specs.declared.Response.the-variants.{Good}
-use Rattle.claim.specs.Journal.{Journal, Change, Member, new-member, member, in-transaction, commits, add, apply, is-early, log-clock, log-start, log-change, log-end, log-ready, fed, replayed, record-told}
+use Rattle.claim.specs.Journal.{Journal, Change, Member, new-member, member, in-transaction, commits, add, apply, is-early, hold-of, log-clock, log-left-by, log-let-go, log-change, log-hold, log-mark, log-update, log-accepted, log-answered, log-end, log-ready, fed, replayed, record-told}
 use Rattle.claim.specs.Run.{World, BackOut, call-given, called, run, begin, bt, back-outs, struck-all}
 use Rattle.claim.specs.Answers.{Answered, answers}
 use Rattle.claim.specs.Lent.{Lent, Alike}
 use Rattle.claim.specs.Claim.{SameRecords, UniqueValues, users-of, Chosen, Requirement3}
 use Rattle.claim.specs.Statements.{unusable, NeverUnusable, StaysUsable, SameTransactions, BackOutsAccepted, BackOutsAreCalls, BackOutsAreFed, JournalOfAnswers, record-added, AddedTold, NeverTouched, response-to, of-others, IsEt, IsBt, changes-of, ReadyEnds, EveryoneListed, bytes-of, CommittedPart, CommittedRead}
 use Rattle.history.specs.Kept.{Kept, member-of}
-use Rattle.history.specs.People.{transaction-is, member-is}
-use Rattle.history.specs.Passing.{Passed, passed-clock}
+use Rattle.history.specs.HandLogs.{spared-let-go}
+use Rattle.history.specs.People.{transaction-is, member-is, ready-started}
+use Rattle.history.specs.Passing.{Passed}
 use Rattle.history.specs.Standing.{well-made-kept, long-kept}
 use Rattle.history.specs.Sizes.{alike-self, alike-then}
 use Rattle.history.specs.EntryLists.{passed-called, usable-called, inside-called, queue-called, lent-words, passed-set-up}
 use Rattle.history.specs.Records.{same-records, unique-values}
-use Rattle.history.specs.Resting.{performed-good, bt-performed, et-performed}
-use Rattle.history.specs.Waiting.{Awaited, awaited-still, awaited-then, awaited-clock, awaited-fed}
+use Rattle.history.specs.Resting.{past-clock, told-then, passed-then, performed-good, bt-performed, et-performed}
+use Rattle.history.specs.Waiting.{Awaited, awaited-still, awaited-then, awaited-past, awaited-fed}
 use Rattle.history.specs.Committed.{committed-left, part-bytes}
 use Rattle.history.specs.CommittedReads.{committed-reads}
 use Rattle.history.specs.BackingOut.{passed-back-outs, queue-back-outs, accepted-back-outs, fed-back-outs}
@@ -123,10 +124,11 @@ pub stays-usable : StaysUsable
 stays-usable capacity table store queue images calls good =
     let lent = lent-words capacity table store queue images good in
     let w = run capacity calls (begin capacity store queue images table) in
-    let k = passed-end capacity table store queue images calls good .kept in
+    let p = passed-end capacity table store queue images calls good in
+    let k = p .kept in
     record {
       same-table = k .sized .same-table;
-      made = well-made-kept capacity lent (in-words capacity (w .database)) (w .journal) k;
+      made = well-made-kept capacity lent (in-words capacity (w .database)) (w .journal) k (p .lined);
       long = rw (k .sized .same-table) at (long-kept capacity lent (in-words capacity (w .database)) (w .journal) k);
     }
 
@@ -155,6 +157,12 @@ unfolding run
 journal-of-answers capacity [] w = refl
 journal-of-answers capacity (g ∷ gs) w = journal-of-answers capacity gs (called capacity g w)
 
+-- a call of a command that was answered 0
+fed-good : (c : Command) (call : Call) (format buffer : List ℕ) (isn : ℕ) (j : Journal) → command-of direct-commands (call .command) ≡ some c
+    → fed call format buffer 0 isn j ≡ log-accepted c call format buffer isn (log-clock (call .clock) (log-left-by (some c) call j))
+unfolding fed
+fed-good c call format buffer isn j known = ap (λ x. log-answered x call format buffer 0 isn (log-clock (call .clock) (log-left-by x call j))) known
+
 -- the last change of a list
 module _ (d : Definition) (call : Call) (format buffer : List ℕ) (isn : ℕ) where
   last-added : (cs : List Change) (x : Option (List ℕ))
@@ -164,10 +172,16 @@ module _ (d : Definition) (call : Call) (format buffer : List ℕ) (isn : ℕ) w
   last-added [] x = rw (eqb-self (call .file), eqb-self isn)
   last-added (c ∷ cs) x = last-added cs _
 
+  told-added : (i : Journal) → record-told d (log-update call isn (add format buffer) i) (call .file) isn ≡ some (record-added d call format buffer)
+  unfolding log-change record-told
+  told-added i = last-added (log-mark (call .file) isn (log-hold (call .user) (call .file) isn i) .changes) none
+
 pub added-told : AddedTold
-unfolding fed command-of log-change record-told
-added-told d j call format buffer isn (inl e) = rw e (last-added d call format buffer isn (log-start (call .user) (log-clock (call .clock) j) .changes) none)
-added-told d j call format buffer isn (inr e) = rw e (last-added d call format buffer isn (log-start (call .user) (log-clock (call .clock) j) .changes) none)
+unfolding command-of
+added-told d j call format buffer isn (inl e) =
+    ap (λ (i : Journal). record-told d i (call .file) isn) (fed-good N1 call format buffer isn j (ap (command-of direct-commands) e)) ∙ told-added d call format buffer isn _
+added-told d j call format buffer isn (inr e) =
+    ap (λ (i : Journal). record-told d i (call .file) isn) (fed-good N2 call format buffer isn j (ap (command-of direct-commands) e)) ∙ told-added d call format buffer isn _
 
 pub never-touched : NeverTouched
 never-touched capacity table store queue images calls bs good chosen =
@@ -189,36 +203,55 @@ module _ (capacity : ℕ) (lent : Lent ℕ) where
     abbrev u : ℕ
     u = g .call .user
 
-    abbrev clock-awaited : Awaited u (w .journal) (log-clock (g .call .clock) (w .journal))
-    clock-awaited = awaited-clock u (within-least 1 max-users u inside) (g .call .clock) (w .journal) ready
+    abbrev u-least : 1 ≤ u
+    u-least = within-least 1 max-users u inside
 
-    active-then : is-active (user-of (clocked (g .call .clock) n) u) ≡ true
-    active-then =
-        let q = passed-clock capacity lent (g .call .clock) n (w .journal) (p .kept) in
-        let x = user-of (clocked (g .call .clock) n) u in
-        let same = sym (member-is (clocked (g .call .clock) n .state .users) u (log-clock (g .call .clock) (w .journal)) (q .kept .told .same-members)) ∙ clock-awaited .same-member in
-        and-left (is-active x) (is-ready x) (ap (λ (m : Member). m .ready) same ∙ ready)
+    -- with the line that its command leaves
+    module _ (c : Command) where
+      abbrev then : Nucleus
+      then = past-clock capacity lent n (w .journal) p (g .call) (g .format) (g .buffer) c
+
+      abbrev told : Journal
+      told = told-then capacity lent n (w .journal) p (g .call) (g .format) (g .buffer) c
+
+      clock-awaited : Awaited u (w .journal) told
+      clock-awaited =
+          awaited-past u u-least (some c) (g .call) (w .journal) ready (ready-started (n .state .users) u (w .journal) (p .kept .told .same-members) ready)
+
+      active-then : is-active (user-of then u) ≡ true
+      active-then =
+          let q = passed-then capacity lent n (w .journal) p (g .call) (g .format) (g .buffer) c in
+          let x = user-of then u in
+          let same = sym (member-is (then .state .users) u told (q .kept .told .same-members)) ∙ clock-awaited .same-member in
+          and-left (is-active x) (is-ready x) (ap (λ (m : Member). m .ready) same ∙ ready)
 
     et-accepted : IsEt g → response-to capacity g w ≡ 0
     unfolding direct-call command-of has-option
     et-accepted e =
         ap number
-        (performed-good capacity lent n (w .journal) p (g .call) (g .format) (g .buffer) Et active-then refl refl (rw (e .command)) (rw (e .option)) inside
-        (et-performed capacity (g .call) (g .format) (g .buffer) (clocked (g .call .clock) n) (e .fits)))
+        (performed-good capacity lent n (w .journal) p (g .call) (g .format) (g .buffer) Et (active-then Et) refl refl (rw (e .command)) (rw (e .option)) inside
+        (et-performed capacity (g .call) (g .format) (g .buffer) (then Et) (e .fits)))
 
     bt-accepted : IsBt g → response-to capacity g w ≡ 0
     unfolding direct-call command-of has-option
     bt-accepted e =
         ap number
-        (performed-good capacity lent n (w .journal) p (g .call) (g .format) (g .buffer) Bt active-then refl refl (rw (e .command)) (rw (e .option)) inside
-        (bt-performed capacity (g .call) (g .format) (g .buffer) (clocked (g .call .clock) n)))
+        (performed-good capacity lent n (w .journal) p (g .call) (g .format) (g .buffer) Bt (active-then Bt) refl refl (rw (e .command)) (rw (e .option)) inside
+        (bt-performed capacity (g .call) (g .format) (g .buffer) (then Bt)))
 
     -- what ET makes of his changes
+    et-log : IsEt g → called capacity g w .journal ≡ log-let-go (hold-of u) (log-end u (told Et))
+    unfolding command-of
+    et-log e =
+        let r = call-given capacity g w .answer in
+        ap (λ k. fed (g .call) (g .format) (g .buffer) k (r .isn) (w .journal)) (et-accepted e)
+        ∙ fed-good Et (g .call) (g .format) (g .buffer) (r .isn) (w .journal) (ap (command-of direct-commands) (e .command))
+
     et-told : IsEt g → changes-of u (called capacity g w .journal) ≡ map (commits u) (changes-of u (w .journal))
-    unfolding fed command-of log-end
+    unfolding log-end
     et-told e =
-        rw (et-accepted e, e .command)
-        (sift-map (λ (c : Change). eqb (c .user) u) (commits u) (λ c. refl) (log-clock (g .call .clock) (w .journal) .changes) ∙ ap (map (commits u)) (clock-awaited .same-changes))
+        ap (changes-of u) (et-log e) ∙ ap (sift (λ (c : Change). eqb (c .user) u)) (spared-let-go (hold-of u) (log-end u (told Et)) .same-changes)
+        ∙ sift-map (λ (c : Change). eqb (c .user) u) (commits u) (λ c. refl) (told Et .changes) ∙ ap (map (commits u)) (clock-awaited Et .same-changes)
 
   -- calls of others
   awaited-run : (v : ℕ) → 1 ≤ v → (gs : List Given) (w : World) → InWords capacity lent w → member (w .journal) v .ready ≡ true → of-others v gs ≡ true
@@ -229,7 +262,8 @@ module _ (capacity : ℕ) (lent : Lent ℕ) where
       let r = call-given capacity g w .answer in
       let apart = not-true (eqb (g .call .user) v) (and-left (not (eqb (g .call .user) v)) (of-others v gs) others) in
       let known : is-early (number (r .response)) ≡ false → 1 ≤ g .call .user = λ late. within-least 1 max-users (g .call .user) (inside-called capacity lent (w .database) (w .journal) p (g .call) (g .format) (g .buffer) late) in
-      let first = awaited-fed v least (g .call) (g .format) (g .buffer) (r .isn) apart (number (r .response)) (w .journal) ready known in
+      let first = awaited-fed v least (g .call) (g .format) (g .buffer) (r .isn) apart (number (r .response)) (w .journal) ready
+      (ready-started (in-words capacity (w .database) .state .users) v (w .journal) (p .kept .told .same-members) ready) known in
       awaited-then v (w .journal) (called capacity g w .journal) _ first
       (awaited-run v least gs (called capacity g w) (passed-next capacity lent g w p) (ap (λ (m : Member). m .ready) (first .same-member) ∙ ready)
       (and-right (not (eqb (g .call .user) v)) (of-others v gs) others))
@@ -240,16 +274,25 @@ module _ (capacity : ℕ) (lent : Lent ℕ) where
     unfolding direct-call
     pe-inside = inside-called capacity lent (w .database) (w .journal) p (g .call) (g .format) (g .buffer) (ap is-early good)
 
+    pe-log : called capacity g w .journal ≡ log-ready (g .call .user) (told-then capacity lent (in-words capacity (w .database)) (w .journal) p (g .call) (g .format) (g .buffer) Pe)
+    unfolding command-of
+    pe-log =
+        let r = call-given capacity g w .answer in
+        ap (λ k. fed (g .call) (g .format) (g .buffer) k (r .isn) (w .journal)) good
+        ∙ fed-good Pe (g .call) (g .format) (g .buffer) (r .isn) (w .journal) (ap (command-of direct-commands) command)
+
     pe-ready : member (called capacity g w .journal) (g .call .user) .ready ≡ true
-    unfolding fed command-of log-ready
+    unfolding log-ready
     pe-ready =
-        let j = log-clock (g .call .clock) (w .journal) in
-        let k = passed-clock capacity lent (g .call .clock) (in-words capacity (w .database)) (w .journal) (p .kept) .kept in
-        let full : length (j .members) ≡ max-users = ap length (k .told .same-members) ∙ length-map (clocked (g .call .clock) (in-words capacity (w .database)) .state .users) member-of ∙ k .people .user-count in
-        rw (good, command)
-        (ap (λ (m : Member). m .ready)
+        let n = in-words capacity (w .database) in
+        let j = told-then capacity lent n (w .journal) p (g .call) (g .format) (g .buffer) Pe in
+        let m = past-clock capacity lent n (w .journal) p (g .call) (g .format) (g .buffer) Pe in
+        let k = passed-then capacity lent n (w .journal) p (g .call) (g .format) (g .buffer) Pe .kept in
+        let full : length (j .members) ≡ max-users = ap length (k .told .same-members) ∙ length-map (m .state .users) member-of ∙ k .people .user-count in
+        ap (λ (i : Journal). member i (g .call .user) .ready) pe-log
+        ∙ ap (λ (x : Member). x .ready)
         (getD-set-same (j .members) (g .call .user - 1) _ new-member
-        (omega (arith, full, within-least 1 max-users (g .call .user) pe-inside, within-most 1 max-users (g .call .user) pe-inside))))
+        (omega (arith, full, within-least 1 max-users (g .call .user) pe-inside, within-most 1 max-users (g .call .user) pe-inside)))
 
 pub ready-ends : ReadyEnds
 ready-ends capacity table store queue images calls others pe good command accepted apart =

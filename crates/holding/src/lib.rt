@@ -3,34 +3,14 @@ ghost use Prim.Native.Nat.{_+_};
 ghost use mathlib.Core.Path.{_≡_};
 ghost use lib.Dec.{ltb};
 ghost use Rattle.lists.specs.Tests.{cond};
-ghost use Rattle.nucleus.specs.Users.{started};
 ghost use Rattle.shares.specs.Outcomes.{hi-done, hi-queue};
 ghost use Rattle.shares.specs.Chains.{held-share, held-queue};
 use definition::File;
 use entries::Entry;
 use nucleus::Call;
-use nucleus::Response;
-use nucleus::Transaction;
-use nucleus::User;
 use shares::Done;
 use shares::Share;
 use shares::Verdict;
-
-// "A transaction opens at the user's first new hold".
-fn started(mut user: User, clock: u32) -> User
-    ensures { λ r. ⌜ r ≡ started clock user ⌝ }
-{
-    if user.transaction.active {
-        return user;
-    }
-    let transaction = Transaction {
-        active: true,
-        begun: clock,
-        ready: false,
-    };
-    user.transaction = transaction;
-    user
-}
 
 // One more entry, where the queue has a place for it.
 fn next_count(count: usize, places: usize) -> usize
@@ -61,7 +41,7 @@ pub fn hold(
         changed: false,
         existed,
     };
-    let user = started(share.user, clock);
+    let user = sessions::started(share.user, clock);
     let count = next_count(share.count, queue.len());
     queue::append(queue, share.count, entry);
     share.user = user;
@@ -82,9 +62,9 @@ pub fn hi(
     ensures { λ r. ⌜ r ≡ hi-done call share (now (queue .entry)) most clock ⌝ }
     ensures { λ _. ⌜ now (queue .exit) ≡ hi-queue call share (now (queue .entry)) most f (now (part .entry)) ⌝ }
 {
-    let found = queue::holder(queue, share.count, call.file, call.isn);
-    if hold_rows::other_holds(found, call.user) {
-        return shares::refused(Response::HeldByAnother, share);
+    let others = hold_rows::others(call, share, queue, call.isn);
+    if let Verdict::Refused(cause) = others {
+        return shares::refused(cause, share);
     }
     let verdict = hold_rows::room(call, share, queue, most, call.isn);
     if let Verdict::Refused(cause) = verdict {

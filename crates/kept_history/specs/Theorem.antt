@@ -9,7 +9,7 @@ use Rattle.entries.specs.declared.Entry.{Entry}
 use Rattle.reading.specs.Grammar.{read-table}
 use Rattle.nucleus.specs.Responses.{number}
 use Rattle.nucleus.specs.declared.Response.{Response}
-use Rattle.nucleus.specs.declared.Response.the-variants.{Good, DefinitionInvalid, BufferTooShort, StateInvalid, CommandUnknown, UserUnknown, BackedOut, TransactionReady, AccessOnly, NoTransaction, FileUnknown, IsnInvalid, FormatInvalid, FieldTwice, RecordLength, ValueInvalid, NotFound, HeldByAnother, Presence, NotHeld, AlreadyChanged, FileFull, HoldLimit, QueueFull, ValueTaken}
+use Rattle.nucleus.specs.declared.Response.the-variants.{Good, DefinitionInvalid, BufferTooShort, StateInvalid, CommandUnknown, UserUnknown, BackedOut, TransactionReady, AccessOnly, NoTransaction, FileUnknown, IsnInvalid, FormatInvalid, FieldTwice, RecordLength, ValueInvalid, NotFound, Waiting, HeldByAnother, Presence, NotHeld, AlreadyChanged, FileFull, HoldLimit, QueueFull, ValueTaken}
 use Rattle.database.specs.Database.{Database, database, Reply, direct-call, direct-part, set-up-database}
 use Rattle.kept_states.specs.KeptStates.{thawed, answered, left-by}
 use Rattle.kept_setup.specs.KeptSetup.{kept-set-up}
@@ -81,6 +81,7 @@ number-good FieldTwice h = absurd (omega (arith, h))
 number-good RecordLength h = absurd (omega (arith, h))
 number-good ValueInvalid h = absurd (omega (arith, h))
 number-good NotFound h = absurd (omega (arith, h))
+number-good Waiting h = absurd (omega (arith, h))
 number-good HeldByAnother h = absurd (omega (arith, h))
 number-good Presence h = absurd (omega (arith, h))
 number-good NotHeld h = absurd (omega (arith, h))

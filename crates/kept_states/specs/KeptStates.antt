@@ -28,6 +28,7 @@ thawed k = record {
   «et_data» = k .«et_data»;
   «last_assigned» = k .«last_assigned»;
   count = k .entries;
+  «wait_queue» = k .«wait_queue»;
 }
 
 unfoldable pub frozen : State → KeptState
@@ -39,6 +40,7 @@ frozen s = record {
   «et_data» = s .«et_data»;
   «last_assigned» = s .«last_assigned»;
   entries = s .count;
+  «wait_queue» = s .«wait_queue»;
 }
 
 -- the state that a call left, with the table as it is kept: no call changes that (`same-table` of database)
@@ -51,6 +53,7 @@ with-kept-table k s = record {
   «et_data» = s .«et_data»;
   «last_assigned» = s .«last_assigned»;
   entries = s .count;
+  «wait_queue» = s .«wait_queue»;
 }
 
 -- ---- the control block

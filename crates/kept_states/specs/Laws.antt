@@ -21,11 +21,11 @@ table-back d t = rw (frozen-known (d .count) (d .files)) (λ i. record { count =
 
 pub state-back : (s : State) → Tidy (s .definition) → thawed (frozen s) ≡ s
 unfolding thawed frozen
-state-back s t = λ i. record { definition = table-back (s .definition) t i; clock = s .clock; users = s .users; «et_data» = s .«et_data»; «last_assigned» = s .«last_assigned»; count = s .count }
+state-back s t = λ i. record { definition = table-back (s .definition) t i; clock = s .clock; users = s .users; «et_data» = s .«et_data»; «last_assigned» = s .«last_assigned»; count = s .count; «wait_queue» = s .«wait_queue» }
 
 pub thawed-with : (k : KeptState) (s : State) → s .definition ≡ thawed k .definition → thawed (with-kept-table k s) ≡ s
 unfolding thawed with-kept-table
-thawed-with k s e = λ i. record { definition = sym e i; clock = s .clock; users = s .users; «et_data» = s .«et_data»; «last_assigned» = s .«last_assigned»; count = s .count }
+thawed-with k s e = λ i. record { definition = sym e i; clock = s .clock; users = s .users; «et_data» = s .«et_data»; «last_assigned» = s .«last_assigned»; count = s .count; «wait_queue» = s .«wait_queue» }
 
 -- a table with an unknown byte in use
 pub thawed-none : (k : KeptState) → files-known (k .count) (k .files) ≡ false → thawed k .definition ≡ no-definition

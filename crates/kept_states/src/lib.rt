@@ -11,9 +11,10 @@ use nucleus::EtData;
 use nucleus::MAX_USERS;
 use nucleus::State;
 use nucleus::User;
+use nucleus::WaitQueue;
 
 // What the nucleus keeps between calls: the definition table, of whose files the first `count` are in use; the clock, the users and their ET
-// data, user 1 first; the ISN that N1 last gave in each file; and the entries in use in the hold queue.
+// data, user 1 first; the ISN that N1 last gave in each file; the entries in use in the hold queue; and who waits.
 #[repr(C)]
 pub struct KeptState {
     pub count: u8,
@@ -23,6 +24,7 @@ pub struct KeptState {
     pub et_data: [EtData; MAX_USERS],
     pub last_assigned: [u16; MAX_FILES],
     pub entries: usize,
+    pub wait_queue: WaitQueue,
 }
 
 // A call's arguments, which it leaves as they are, and what it answers.
@@ -70,6 +72,7 @@ pub fn thawed(k: KeptState) -> State
     let users = k.users;
     let et_data = k.et_data;
     let last_assigned = k.last_assigned;
+    let line = k.wait_queue;
     State {
         definition,
         clock: k.clock,
@@ -77,6 +80,7 @@ pub fn thawed(k: KeptState) -> State
         et_data,
         last_assigned,
         count: k.entries,
+        wait_queue: line,
     }
 }
 
@@ -89,6 +93,7 @@ pub fn frozen(s: State) -> KeptState
     let users = s.users;
     let et_data = s.et_data;
     let last_assigned = s.last_assigned;
+    let line = s.wait_queue;
     KeptState {
         count: definition.count,
         files: kept,
@@ -97,6 +102,7 @@ pub fn frozen(s: State) -> KeptState
         et_data,
         last_assigned,
         entries: s.count,
+        wait_queue: line,
     }
 }
 
@@ -107,11 +113,13 @@ fn with_kept_table(mut k: KeptState, s: State) -> KeptState
     let users = s.users;
     let et_data = s.et_data;
     let last_assigned = s.last_assigned;
+    let line = s.wait_queue;
     k.clock = s.clock;
     k.users = users;
     k.et_data = et_data;
     k.last_assigned = last_assigned;
     k.entries = s.count;
+    k.wait_queue = line;
     k
 }
 

@@ -1,11 +1,13 @@
 -- Tests that every element passes, or some: of a list that changes, of two lists, of two tests that agree.
 -- Assumes nothing.
 use mathlib.Core.Path.{_≡_, refl, _∙_}
-use mathlib.Core.Bool.{Bool, true, false, _&&_, _||_}
+use mathlib.Core.Bool.{Bool, true, false, not, _&&_, _||_}
 use mathlib.Core.List.{List, [], _∷_, _++_}
 use Prim.Native.Nat.{ℕ, zero, suc, suc-le-suc, _<_}
+use native.Mathlib.Nat.{not-suc-le-zero, le-of-suc-le-suc}
 use native.Mathlib.Omega.{arith}
 use lib.ListN.{length, take, drop, getD, set}
+use borrow.Author.Tests.{not-true}
 use Rattle.lists.specs.Tests.{not-both, and-left, and-right, or-left, or-right, or-true, and-false}
 use Rattle.lists.specs.Folds.{all, any, Each}
 
@@ -21,6 +23,16 @@ module _ {A : Type 0} where
   pub any-behind : (p : A → Bool) (xs ys : List A) → any p ys ≡ true → any p (xs ++ ys) ≡ true
   any-behind p [] ys h = h
   any-behind p (x ∷ xs) ys h = rw (any-behind p xs ys h) (or-true (p x))
+
+  -- where each fails a test, none passes it
+  pub none-any : (p : A → Bool) (l : List A) → all (λ x. not (p x)) l ≡ true → any p l ≡ false
+  none-any p [] h = refl
+  none-any p (x ∷ l) h = rw (not-true (p x) (and-left (not (p x)) (all (λ y. not (p y)) l) h)) (none-any p l (and-right (not (p x)) (all (λ y. not (p y)) l) h))
+
+  pub any-there : (p : A → Bool) (l : List A) (d : A) (i : ℕ) → i < length l → p (getD l i d) ≡ true → any p l ≡ true
+  any-there p [] d i k h = absurd (not-suc-le-zero k)
+  any-there p (x ∷ l) d zero k h = rw h
+  any-there p (x ∷ l) d (suc i) k h = rw (any-there p l d i (le-of-suc-le-suc k) h) (or-true (p x))
 
   -- ---- every element, of a list that changes
   pub all-implies : (p q : A → Bool) → ((x : A) → p x ≡ true → q x ≡ true) → (xs : List A) → all p xs ≡ true → all q xs ≡ true

@@ -3,8 +3,10 @@
 use mathlib.Core.Path.{_≡_, refl, sym, _∙_, ap}
 use mathlib.Core.Bool.{Bool, true, false, not, _&&_, _||_, and-comm}
 use mathlib.Core.List.{List, [], _∷_, _++_, map}
-use Prim.Native.Nat.{ℕ}
+use Prim.Native.Nat.{ℕ, _+_, _≤_}
+use native.Mathlib.Omega.{arith}
 use lib.Dec.{eqb}
+use lib.ListN.{length}
 use borrow.Author.Tests.{eqb-true, not-true}
 use Rattle.lists.specs.Tests.{not-both, Outcome, holds, fails, outcome, and-left, and-right, and-false, or-left, or-right}
 use Rattle.lists.specs.Folds.{any, all, distinct, Each}
@@ -115,6 +117,38 @@ module _ {A : Type 0} where
   sift-all p [] h = refl
   sift-all p (x ∷ xs) h = rw (and-left (p x) (all p xs) h) (ap (λ l. x ∷ l) (sift-all p xs (and-right (p x) (all p xs) h)))
 
+  -- and where none goes
+  pub sift-rest : (p : A → Bool) (xs : List A) → any p xs ≡ false → sift (λ x. not (p x)) xs ≡ xs
+  sift-rest p [] h = refl
+  sift-rest p (x ∷ xs) h = rw (or-left (p x) (any p xs) h) (ap (λ l. x ∷ l) (sift-rest p xs (or-right (p x) (any p xs) h)))
+
+  -- it is no longer
+  pub length-sift : (p : A → Bool) (l : List A) → length (sift p l) ≤ length l
+  length-sift p [] = omega arith
+  length-sift p (x ∷ l) = go (p x) (length-sift p l)
+    where
+      go : (b : Bool) → length (sift p l) ≤ length l → length (keep b x (sift p l)) ≤ length (x ∷ l)
+      go true h = omega arith
+      go false h = omega arith
+
+  -- and with what went as long
+  pub length-parts : (p : A → Bool) (l : List A) → length (sift (λ x. not (p x)) l) + length (sift p l) ≡ length l
+  length-parts p [] = refl
+  length-parts p (x ∷ l) = go (p x) (length-parts p l)
+    where
+      go : (b : Bool) → length (sift (λ y. not (p y)) l) + length (sift p l) ≡ length l → length (keep (not b) x (sift (λ y. not (p y)) l)) + length (keep b x (sift p l)) ≡ length (x ∷ l)
+      go true later = omega (arith, later)
+      go false later = omega (arith, later)
+
+-- what a function makes of it
+pub sift-over : {A B : Type 0} (f : A → B) (p : B → Bool) (l : List A) → sift p (map f l) ≡ map f (sift (λ x. p (f x)) l)
+sift-over f p [] = refl
+sift-over f p (x ∷ l) = rw (sift-over f p l) (go (p (f x)))
+  where
+    go : (b : Bool) → keep b (f x) (map f (sift (λ y. p (f y)) l)) ≡ map f (keep b x (sift (λ y. p (f y)) l))
+    go true = refl
+    go false = refl
+
 pub each-sift : {A : Type 0} (P : A → Type 0) (p : A → Bool) (l : List A) → Each P l → Each P (sift p l)
 each-sift P p [] h = tt
 each-sift P p (x ∷ l) h = go (p x) (each-sift P p l (h .1))
@@ -124,7 +158,8 @@ each-sift P p (x ∷ l) h = go (p x) (each-sift P p l (h .1))
     go false r = r
 
 module _ {A : Type 0} where
-  any-left : (p r : A → Bool) (l : List A) → any r l ≡ false → any r (sift p l) ≡ false
+  -- what is in no element is in none of those that are left
+  pub any-left : (p r : A → Bool) (l : List A) → any r l ≡ false → any r (sift p l) ≡ false
   any-left p r [] h = refl
   any-left p r (x ∷ l) h = go (p x) (any-left p r l (or-right (r x) (any r l) h))
     where

@@ -9,6 +9,7 @@ use Rattle.removal.specs.declared.Removal.{Removal}
 use Rattle.removal.specs.declared.Removal.the-variants.{All}
 use Rattle.nucleus.specs.Users.{is-due, ended, with-overdue}
 use Rattle.nucleus.specs.Nucleus.{Nucleus, max-users, with-clock, with-count, with-state, with-store, width-of, user-of, change-user}
+use Rattle.nucleus.specs.Waiters.{left, let-go, handed}
 
 -- entries go, with their images
 unfoldable pub removed : Removal → Nucleus → Nucleus
@@ -26,9 +27,14 @@ with-restored u n = with-store (restore (n .state .definition) (width-of n) u (n
 unfoldable pub backed-out : ℕ → Nucleus → Nucleus
 backed-out u n = change-user u ended (removed (All u) (with-restored u n))
 
+-- one that is not asked for, by the clock, or OP or CL. Document 02, No. 1: "A back-out takes its user from the line. Each back-out, ET or RI hands over
+-- after its removals, oldest entry first"
+unfoldable pub forced-out : ℕ → Nucleus → Nucleus
+forced-out u n = handed (let-go (All u) n) (left u (backed-out u n))
+
 -- one user, where he is due
 abbrev pub timed-out : ℕ → Nucleus → Nucleus
-timed-out u n = cond (is-due (n .state .clock) (user-of n u)) (change-user u (with-overdue true) (backed-out u n)) n
+timed-out u n = cond (is-due (n .state .clock) (user-of n u)) (change-user u (with-overdue true) (forced-out u n)) n
 
 -- the users from one on
 abbrev pub timed-out-from : ℕ → ℕ → Nucleus → Nucleus

@@ -110,6 +110,14 @@ reading-values = L1 ∷ L4 ∷ []
 abbrev pub reading-committed : List Command
 reading-committed = L1 ∷ []
 
+-- that may wait in line for a record: "HI and L4 get option `W`"
+abbrev pub may-wait : List Command
+may-wait = Hi ∷ L4 ∷ []
+
+-- by which a holder lets go: "Each back-out, ET or RI hands over"
+abbrev pub letting-go : List Command
+letting-go = Ri ∷ Et ∷ Bt ∷ []
+
 -- that open or close a session
 abbrev pub on-session : List Command
 on-session = Op ∷ Cl ∷ []
@@ -143,7 +151,11 @@ option-A = 65
 abbrev pub option-C : ℕ
 option-C = 67
 
--- "blank X'20' for none"; `I` is named for L1 and L4, `H` for A1 and E1, `A` for OP, and `C` for L1
+-- document 02, No. 1: "HI and L4 get option `W`: where 145 would be given, the call joins that record's line"
+abbrev pub option-W : ℕ
+option-W = 87
+
+-- "blank X'20' for none"; `I` is named for L1 and L4, `H` for A1 and E1, `A` for OP, `C` for L1, and `W` for HI and L4
 unfoldable pub has-option : Command → ℕ → Bool
 has-option c o =
     eqb o blank
@@ -151,3 +163,4 @@ has-option c o =
     || (eqb o option-H && one-of changing-held c)
     || (eqb o option-A && one-of (Op ∷ []) c)
     || (eqb o option-C && one-of reading-committed c)
+    || (eqb o option-W && one-of may-wait c)

@@ -37,15 +37,16 @@ use Rattle.images.specs.Images.{image-has}
 use Rattle.removal.specs.Removal.{remove-queue, remove-images, remove-count}
 use Rattle.hold.specs.Hold.{put-back-in, put-back, restore}
 use Rattle.nucleus.specs.Text.{text}
-use Rattle.nucleus.specs.Commands.{commands, direct-commands, place-of, code, command-of, has-option, blank, option-I, option-H, option-A, option-C}
+use Rattle.nucleus.specs.Commands.{commands, direct-commands, place-of, code, command-of, has-option, blank, option-I, option-H, option-A, option-C, option-W}
 use Rattle.nucleus.specs.Users.{opening, counted, with-transaction, with-overdue, set-session}
 use Rattle.nucleus.specs.Nucleus.{Nucleus, nucleus, Given, given, with-count, with-store, change-user}
 use Rattle.nucleus.specs.WellMade.{too-short, well-made}
-use Rattle.nucleus.specs.Clock.{removed, backed-out, clocked}
+use Rattle.nucleus.specs.Waiters.{left-line, joined-line, line-left-by, handed-on}
+use Rattle.nucleus.specs.Clock.{removed, backed-out, forced-out, clocked}
 use Rattle.nucleus.specs.Target.{target, new-record}
-use Rattle.nucleus.specs.Rows.{rows-usable, rows-understood, is-overdue, session-in-transaction, ready-refused, access-refused, transaction-missing, file-unknown, isn-invalid, format-refused, field-twice, record-length-refused, value-refused, none-found, held-elsewhere, presence-refused, not-held, release-refused, file-full, limit-reached, queue-full, value-taken}
+use Rattle.nucleus.specs.Rows.{rows-usable, rows-understood, is-overdue, session-in-transaction, ready-refused, access-refused, transaction-missing, file-unknown, isn-invalid, format-refused, field-twice, record-length-refused, value-refused, none-found, held-elsewhere, waits, presence-refused, not-held, release-refused, file-full, limit-reached, queue-full, value-taken}
 use Rattle.nucleus.specs.Effects.{held, imaged, written, erased, effect-at}
-use Rattle.nucleus.specs.Step.{admitted-session, admitted-user, admitted, perform, step, set-up}
+use Rattle.nucleus.specs.Step.{admitted-session, admitted-user, admitted, perform, after-line, step, set-up}
 use Rattle.nucleus.specs.Committed.{committed-place}
 use Rattle.nucleus.specs.Line.{hexadecimal, decimal, line-of, line}
 use Rattle.nucleus.specs.declared.User.{User}
@@ -63,22 +64,22 @@ unfolding command-of
 thirteen = refl
 
 -- ---- a list of calls, each with its buffers, and the lines that it prints
-abbrev capacity : ℕ
+abbrev pub capacity : ℕ
 capacity = 64
 
-abbrev lines : List Given → Nucleus → List (List ℕ)
+abbrev pub lines : List Given → Nucleus → List (List ℕ)
 lines [] n = []
 lines (g ∷ gs) n = let r = step capacity (g .call) (g .format) (g .buffer) n in line (g .call) r ∷ lines gs (r .nucleus)
 
 -- on a fresh nucleus of a table whose store takes at most 16 bytes and whose records at most 3, and on what somebody made of it
-abbrev printed-on : (Nucleus → Nucleus) → List ℕ → List Given → List (List ℕ)
+abbrev pub printed-on : (Nucleus → Nucleus) → List ℕ → List Given → List (List ℕ)
 printed-on altered table calls = lines calls (altered (set-up capacity (replicate 16 0) (replicate capacity 0) (replicate (capacity * 3) 0) table .nucleus))
 
-abbrev printed : List ℕ → List Given → List (List ℕ)
+abbrev pub printed : List ℕ → List Given → List (List ℕ)
 printed table calls = printed-on (λ n. n) table calls
 
 -- "all clocks 0, file 1, option blank, .. all else 0 or empty, unless named"
-abbrev sent : String → ℕ → ℕ → ℕ → ℕ → List ℕ → List ℕ → Given
+abbrev pub sent : String → ℕ → ℕ → ℕ → ℕ → List ℕ → List ℕ → Given
 sent command option user isn clock format buffer =
     given (record { command = text command; option = option; user = user; file = 1; isn = isn; limit = 0; clock = clock }) format buffer
 
@@ -101,7 +102,7 @@ one-table : List ℕ
 one-table = 0x01 ∷ 0x01 ∷ 0x00 ∷ 0x01 ∷ 0x02 ∷ 0x52 ∷ 0x43 ∷ 0x01 ∷ 0x41 ∷ 0x55 ∷ 0x02 ∷ 0x48 ∷ 0x48 ∷ 0x02 ∷ 0x41 ∷ 0x20 ∷ 0x00 ∷ []
 
 -- a file of highest ISN 2 with one field, RC
-two-table : List ℕ
+unfoldable pub two-table : List ℕ
 two-table = 0x01 ∷ 0x01 ∷ 0x00 ∷ 0x02 ∷ 0x02 ∷ 0x52 ∷ 0x43 ∷ 0x01 ∷ 0x41 ∷ 0x20 ∷ 0x00 ∷ []
 
 -- a file of highest ISN 3 with one field, PA, packed, two bytes, unique
@@ -617,14 +618,14 @@ rows =
 
 -- ---- which of the 256 option bytes are named for each command
 named-options : map (λ c. sift (has-option c) (numbers 256 0)) direct-commands
-    ≡ (blank ∷ []) ∷ (blank ∷ []) ∷ (blank ∷ option-C ∷ option-I ∷ []) ∷ (blank ∷ option-I ∷ []) ∷ (blank ∷ option-H ∷ []) ∷ (blank ∷ option-H ∷ [])
+    ≡ (blank ∷ option-W ∷ []) ∷ (blank ∷ []) ∷ (blank ∷ option-C ∷ option-I ∷ []) ∷ (blank ∷ option-I ∷ option-W ∷ []) ∷ (blank ∷ option-H ∷ []) ∷ (blank ∷ option-H ∷ [])
     ∷ (blank ∷ []) ∷ (blank ∷ []) ∷ (blank ∷ []) ∷ (blank ∷ []) ∷ (blank ∷ []) ∷ (blank ∷ option-A ∷ []) ∷ (blank ∷ []) ∷ (blank ∷ []) ∷ []
 unfolding has-option
 named-options = refl
 
 -- a `refl` for each row: one for all rows computes several times as long
 computed-as-expected : Each (λ r. r .computed ≡ r .expected) rows
-unfolding assorted-calls doubled-store house-table house-calls one-table two-table packed-table given-up-calls changed-twice-calls emptied-calls going-round-calls hold-only-calls no-fields-calls changed-after-calls nulls-calls no-buffer-calls packed-calls signs-calls beside-lent-calls ready-calls only-ending-calls refused-ready-calls no-transaction-calls ready-once-calls committed-changed-calls committed-emptied-calls committed-added-calls committed-held-calls committed-refused-calls committed-users-calls unstored-store lent-store rows record-length field-offset file-offset store-size image-length place valid file-valid field-valid name-valid format-of option-of file-item field-item item-of read-from read-table stored below-zero allowed null-value field-named format-valid element places named-twice length-needed needed-within fits read-fields write-fields values-allowed null-record slot-fits has-record get shown committed-version version-there version-bytes lowest elsewhere put-record empty fresh file-part with-part pack-of unpack-of entries holder held-by repeated append change closed remove-queue remove-images remove-count image-has keep-image settled first-change-queue first-change-images put-back-in put-back restore command-of has-option too-short well-made removed backed-out clocked target rows-usable rows-understood is-overdue session-in-transaction ready-refused access-refused transaction-missing file-unknown isn-invalid format-refused field-twice record-length-refused value-refused none-found held-elsewhere presence-refused not-held release-refused file-full limit-reached queue-full new-record value-taken held imaged written erased effect-at admitted-session admitted-user admitted perform step set-up decimal line-of
+unfolding assorted-calls doubled-store house-table house-calls one-table two-table packed-table given-up-calls changed-twice-calls emptied-calls going-round-calls hold-only-calls no-fields-calls changed-after-calls nulls-calls no-buffer-calls packed-calls signs-calls beside-lent-calls ready-calls only-ending-calls refused-ready-calls no-transaction-calls ready-once-calls committed-changed-calls committed-emptied-calls committed-added-calls committed-held-calls committed-refused-calls committed-users-calls unstored-store lent-store rows record-length field-offset file-offset store-size image-length place valid file-valid field-valid name-valid format-of option-of file-item field-item item-of read-from read-table stored below-zero allowed null-value field-named format-valid element places named-twice length-needed needed-within fits read-fields write-fields values-allowed null-record slot-fits has-record get shown committed-version version-there version-bytes lowest elsewhere put-record empty fresh file-part with-part pack-of unpack-of entries holder held-by repeated append change closed remove-queue remove-images remove-count image-has keep-image settled first-change-queue first-change-images put-back-in put-back restore command-of has-option too-short well-made removed backed-out left-line joined-line line-left-by handed-on forced-out clocked target rows-usable rows-understood is-overdue session-in-transaction ready-refused access-refused transaction-missing file-unknown isn-invalid format-refused field-twice record-length-refused value-refused none-found held-elsewhere waits presence-refused not-held release-refused file-full limit-reached queue-full new-record value-taken held imaged written erased effect-at admitted-session admitted-user admitted perform after-line step set-up decimal line-of
 computed-as-expected = (refl, (refl, (refl, (refl, (refl, (refl, (refl, (refl, (refl, (refl, (refl, (refl, (refl, (refl, (refl, (refl, (refl, (refl, (refl, (refl, (refl, (refl, (refl, (refl, (refl, (refl, (refl, (refl, (refl, (refl, (refl, (refl, (refl, (refl, (refl, (refl, (refl, (refl, (refl, (refl, (refl, (refl, (refl, (refl, (refl, (refl, tt))))))))))))))))))))))))))))))))))))))))))))))
 
 -- ---- the record as a part: where it lies, and its bytes
@@ -648,7 +649,7 @@ files-calls =
     sent "A1" option-H 2 1 0 (text "RC.") (text "B") ∷
     in-file 2 (sent "N1" blank 2 0 0 (text "HH.") (text "VU")) ∷ []
 
-abbrev left-by : List Given → Nucleus → Nucleus
+abbrev pub left-by : List Given → Nucleus → Nucleus
 left-by [] n = n
 left-by (g ∷ gs) n = left-by gs (step capacity (g .call) (g .format) (g .buffer) n .nucleus)
 
@@ -686,5 +687,5 @@ abbrev PlacedAt : PlaceRow → Type 0
 PlacedAt r = (committed-place (r .state) (r .file) (r .isn) (r .capacity) ≡ r .place) × (bytes-at (r .place) (r .state .store) (r .state .images) ≡ r .bytes)
 
 places-as-expected : Each PlacedAt place-rows
-unfolding files-table files-calls place-rows record-length field-offset file-offset store-size image-length place valid file-valid field-valid name-valid format-of option-of file-item field-item item-of read-from read-table stored below-zero allowed null-value field-named format-valid element places named-twice length-needed needed-within fits read-fields write-fields values-allowed null-record slot-fits has-record get shown committed-version version-there version-bytes lowest elsewhere put-record empty fresh file-part with-part pack-of unpack-of entries holder held-by repeated append change closed remove-queue remove-images remove-count image-has keep-image settled first-change-queue first-change-images put-back-in put-back restore command-of has-option too-short well-made removed backed-out clocked target rows-usable rows-understood is-overdue session-in-transaction ready-refused access-refused transaction-missing file-unknown isn-invalid format-refused field-twice record-length-refused value-refused none-found held-elsewhere presence-refused not-held release-refused file-full limit-reached queue-full new-record value-taken held imaged written erased effect-at admitted-session admitted-user admitted perform step set-up version-place bytes-at committed-place
+unfolding files-table files-calls place-rows record-length field-offset file-offset store-size image-length place valid file-valid field-valid name-valid format-of option-of file-item field-item item-of read-from read-table stored below-zero allowed null-value field-named format-valid element places named-twice length-needed needed-within fits read-fields write-fields values-allowed null-record slot-fits has-record get shown committed-version version-there version-bytes lowest elsewhere put-record empty fresh file-part with-part pack-of unpack-of entries holder held-by repeated append change closed remove-queue remove-images remove-count image-has keep-image settled first-change-queue first-change-images put-back-in put-back restore command-of has-option too-short well-made removed backed-out left-line joined-line line-left-by handed-on forced-out clocked target rows-usable rows-understood is-overdue session-in-transaction ready-refused access-refused transaction-missing file-unknown isn-invalid format-refused field-twice record-length-refused value-refused none-found held-elsewhere waits presence-refused not-held release-refused file-full limit-reached queue-full new-record value-taken held imaged written erased effect-at admitted-session admitted-user admitted perform after-line step set-up version-place bytes-at committed-place
 places-as-expected = ((refl, refl), ((refl, refl), ((refl, refl), ((refl, refl), ((refl, refl), ((refl, refl), ((refl, refl), ((refl, refl), ((refl, refl), ((refl, refl), ((refl, refl), ((refl, refl), tt))))))))))))

@@ -2,9 +2,10 @@ pub mod Commands
 pub mod Users
 pub mod Responses
 pub mod Nucleus
+pub mod Target
+pub mod Waiters
 pub mod WellMade
 pub mod Clock
-pub mod Target
 pub mod Rows
 pub mod Committed
 pub mod Effects
@@ -12,3 +13,4 @@ pub mod Step
 pub mod Text
 pub mod Line
 mod Examples
+mod WaitingExamples

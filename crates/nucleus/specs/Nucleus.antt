@@ -14,6 +14,7 @@ use Rattle.nucleus.specs.declared.Command.{Command}
 use Rattle.nucleus.specs.declared.User.{User}
 use Rattle.nucleus.specs.declared.EtData.{EtData}
 use Rattle.nucleus.specs.declared.State.{State}
+use Rattle.nucleus.specs.declared.WaitQueue.{WaitQueue}
 
 -- the state, and the lent store, hold queue and image buffer
 pub record Nucleus : Type 0 where
@@ -86,6 +87,7 @@ with-user u x s = record {
   «et_data» = s .«et_data»;
   «last_assigned» = s .«last_assigned»;
   count = s .count;
+  «wait_queue» = s .«wait_queue»;
 }
 
 abbrev pub with-data : ℕ → EtData → State → State
@@ -96,6 +98,7 @@ with-data u x s = record {
   «et_data» = set (s .«et_data») (u - 1) x;
   «last_assigned» = s .«last_assigned»;
   count = s .count;
+  «wait_queue» = s .«wait_queue»;
 }
 
 abbrev pub with-clock : ℕ → State → State
@@ -106,6 +109,7 @@ with-clock clock s = record {
   «et_data» = s .«et_data»;
   «last_assigned» = s .«last_assigned»;
   count = s .count;
+  «wait_queue» = s .«wait_queue»;
 }
 
 abbrev pub with-last-assigned : ℕ → ℕ → State → State
@@ -116,6 +120,7 @@ with-last-assigned place isn s = record {
   «et_data» = s .«et_data»;
   «last_assigned» = set (s .«last_assigned») place isn;
   count = s .count;
+  «wait_queue» = s .«wait_queue»;
 }
 
 abbrev pub with-count : ℕ → State → State
@@ -126,7 +131,23 @@ with-count count s = record {
   «et_data» = s .«et_data»;
   «last_assigned» = s .«last_assigned»;
   count = count;
+  «wait_queue» = s .«wait_queue»;
 }
+
+abbrev pub with-wait-queue : WaitQueue → State → State
+with-wait-queue line s = record {
+  definition = s .definition;
+  clock = s .clock;
+  users = s .users;
+  «et_data» = s .«et_data»;
+  «last_assigned» = s .«last_assigned»;
+  count = s .count;
+  «wait_queue» = line;
+}
+
+-- nobody waits
+abbrev pub no-waiters : WaitQueue
+no-waiters = record { places = replicate max-users 0; waiting = 0 }
 
 -- "the kept clock is 0, no user is open, there is no entry and no ET data: a fresh nucleus"
 abbrev pub fresh-state : Definition → State
@@ -137,6 +158,7 @@ fresh-state d = record {
   «et_data» = replicate max-users no-data;
   «last_assigned» = replicate max-files 0;
   count = 0;
+  «wait_queue» = no-waiters;
 }
 
 -- ---- parts of the nucleus

@@ -19,17 +19,18 @@ use Rattle.store.specs.Store.{field-value}
 use Rattle.search.specs.Search.{elsewhere}
 use Rattle.queue.specs.Queue.{held-by}
 use Rattle.images.specs.Images.{image-has}
-use Rattle.nucleus.specs.Commands.{command-of, one-of, on-file, at-given-isn, holding, changing-held, on-record, naming, bringing-values, on-session, serving-ready, setting-ready, serving-access-only, has-option, option-H}
+use Rattle.nucleus.specs.Commands.{command-of, one-of, on-file, at-given-isn, holding, changing-held, on-record, naming, bringing-values, may-wait, on-session, serving-ready, setting-ready, serving-access-only, has-option, option-H, option-W}
 use Rattle.nucleus.specs.Users.{is-active, is-ready}
 use Rattle.nucleus.specs.Nucleus.{Nucleus, Request, max-users, max-et-data, data-at, user-of, entries-of, width-of}
 use Rattle.nucleus.specs.WellMade.{too-short, well-made}
+use Rattle.nucleus.specs.Waiters.{in-line}
 use Rattle.nucleus.specs.Target.{is-file, is-isn, other-holds, is-changed, command-in, file-place, file, part, record-at, holder-of, seeks, target, target-isn, held-by-caller, record-shown, new-record}
 use Rattle.nucleus.specs.declared.Command.{Command}
 use Rattle.nucleus.specs.declared.Command.the-variants.{Ri, A1, N1, N2, Et, Re}
 use Rattle.nucleus.specs.declared.Call.{Call}
 use Rattle.nucleus.specs.declared.User.{User}
 use Rattle.nucleus.specs.declared.Response.{Response}
-use Rattle.nucleus.specs.declared.Response.the-variants.{BufferTooShort, StateInvalid, CommandUnknown, UserUnknown, BackedOut, TransactionReady, AccessOnly, NoTransaction, FileUnknown, IsnInvalid, FormatInvalid, FieldTwice, RecordLength, ValueInvalid, NotFound, HeldByAnother, Presence, NotHeld, AlreadyChanged, FileFull, HoldLimit, QueueFull, ValueTaken}
+use Rattle.nucleus.specs.declared.Response.the-variants.{BufferTooShort, StateInvalid, CommandUnknown, UserUnknown, BackedOut, TransactionReady, AccessOnly, NoTransaction, FileUnknown, IsnInvalid, FormatInvalid, FieldTwice, RecordLength, ValueInvalid, NotFound, Waiting, HeldByAnother, Presence, NotHeld, AlreadyChanged, FileFull, HoldLimit, QueueFull, ValueTaken}
 
 pub record Row : Type 0 where
   pub cause : Response
@@ -143,6 +144,15 @@ module _ (r : Request) (n : Nucleus) where
   unfoldable pub held-elsewhere : Bool
   held-elsewhere = command-in r n holding && is-isn (target r n) && other-holds (r .call .user) (holder-of r n (target-isn r n))
 
+  -- the caller is at or past his hold limit
+  abbrev pub at-limit : Bool
+  at-limit = leb (user-of n (r .call .user) .«hold_limit») (held-by (entries-of n) (r .call .user))
+
+  -- document 02, No. 1: "20 for one who joins or still waits, in 145's row"; "a user at or past it doesn't join and gets 145". Who is in the line past
+  -- 72's check is there by this very call
+  unfoldable pub waits : Bool
+  waits = command-in r n may-wait && eqb (r .call .option) option-W && held-elsewhere && (in-line (n .state .«wait_queue») (r .call .user) || not at-limit)
+
   -- "no record (L1, L4, A1, E1), or one there (N2)"; of L1 with option `C`, none that ended transactions left
   unfoldable pub presence-refused : Bool
   presence-refused =
@@ -169,7 +179,7 @@ module _ (r : Request) (n : Nucleus) where
 
   -- "new entry, user at or past his hold limit"
   unfoldable pub limit-reached : Bool
-  limit-reached = new-entry && leb (user-of n (r .call .user) .«hold_limit») (held-by (entries-of n) (r .call .user))
+  limit-reached = new-entry && at-limit
 
   -- the most entries that there may be just now
   abbrev pub room : ℕ
@@ -206,6 +216,7 @@ module _ (r : Request) (n : Nucleus) where
       ∷ row RecordLength record-length-refused
       ∷ row ValueInvalid value-refused
       ∷ row NotFound none-found
+      ∷ row Waiting waits
       ∷ row HeldByAnother held-elsewhere
       ∷ row Presence presence-refused
       ∷ row NotHeld not-held

@@ -1,6 +1,6 @@
 -- One call, and set-up (document 01, 'One call' and 'Files and their definition').
 use Prim.Native.Nat.{ℕ}
-use mathlib.Core.Bool.{false}
+use mathlib.Core.Bool.{false, _&&_}
 use mathlib.Core.List.{List, [], _∷_}
 use mathlib.Core.Option.{Option, none, some}
 use lib.Dec.{eqb}
@@ -13,12 +13,13 @@ use Rattle.store.specs.Store.{fresh, file-part, with-part}
 use Rattle.definition.specs.declared.Definition.{Definition}
 use Rattle.reading.specs.declared.End.{End}
 use Rattle.reading.specs.declared.End.the-variants.{At, Broken}
-use Rattle.nucleus.specs.Commands.{direct-commands, command-of}
+use Rattle.nucleus.specs.Commands.{direct-commands, command-of, one-of, letting-go}
 use Rattle.nucleus.specs.Users.{opened, with-overdue}
-use Rattle.nucleus.specs.Responses.{refused}
+use Rattle.nucleus.specs.Responses.{number, waiting-number, refused}
 use Rattle.nucleus.specs.Nucleus.{Nucleus, nucleus, Request, request, Result, result, fresh-state, change-user}
 use Rattle.nucleus.specs.WellMade.{too-short}
-use Rattle.nucleus.specs.Clock.{backed-out, clocked}
+use Rattle.nucleus.specs.Waiters.{joined-line, change-line, left-by, let-go, lets-go, handed}
+use Rattle.nucleus.specs.Clock.{forced-out, clocked}
 use Rattle.nucleus.specs.Rows.{first-cause, rows-usable, rows-understood, rows-after-clock, rows-after-session, rows-last, is-overdue}
 use Rattle.nucleus.specs.Effects.{effect}
 use Rattle.nucleus.specs.declared.Command.{Command}
@@ -39,7 +40,7 @@ unless-refused none n next = next
 -- "A call of a marked user does nothing further, clears the mark and answers 9"; OP or CL, "with a transaction open, backs it out, answers 9 and
 -- does nothing more"
 abbrev pub notified : Command → Call → Nucleus → Nucleus
-notified c call n = cond (is-overdue c call n) (change-user (call .user) (with-overdue false) n) (backed-out (call .user) n)
+notified c call n = cond (is-overdue c call n) (change-user (call .user) (with-overdue false) n) (forced-out (call .user) n)
 
 -- the rows of 211, 29 and 212
 unfoldable pub admitted-session : Command → Call → Nucleus → Admission
@@ -52,9 +53,9 @@ admitted-user c call n = unless-refused (first-cause (rows-after-clock c call n)
 -- a command that is known, since no row before the clock holds
 abbrev pub admitted-command : Option Command → Call → Nucleus → Admission
 admitted-command none call n = turned-away CommandUnknown n
-admitted-command (some c) call n = admitted-user c call (clocked (call .clock) n)
+admitted-command (some c) call n = admitted-user c call (clocked (call .clock) (left-by c call n))
 
--- 12, 11, 12; 22, 72; the clock; 9; the session; 211, 29, 212
+-- 12, 11, 12; 22, 72; the line that is left; the clock; 9; the session; 211, 29, 212
 unfoldable pub admitted : List Command → ℕ → Call → Nucleus → Admission
 admitted served capacity call n =
     unless-refused (first-cause (rows-usable capacity n)) n
@@ -73,9 +74,18 @@ unless none refuse next = next
 unfoldable pub perform : Request → Nucleus → Result
 perform r n = unless (first-cause (rows-last r n)) (refusal (r .buffer) n) (effect r n)
 
+-- the line then: who is answered 20 joins it, and what a command let go is handed over
+abbrev pub lined : Request → Nucleus → ℕ → Nucleus → Nucleus
+lined r before response n =
+    cond (eqb response waiting-number) (change-line (joined-line (r .command) (r .call)) n)
+    (cond (eqb response 0 && one-of letting-go (r .command)) (handed (let-go (lets-go (r .command) (r .call)) before) n) n)
+
+unfoldable pub after-line : Request → Nucleus → Result → Result
+after-line r before x = result (x .answer) (lined r before (number (x .answer .response)) (x .nucleus)) (x .buffer)
+
 abbrev pub serve : Admission → ℕ → Call → List ℕ → List ℕ → Result
 serve (turned-away cause n) capacity call format buffer = refusal buffer n cause
-serve (let-in c n) capacity call format buffer = perform (request capacity c call format buffer) n
+serve (let-in c n) capacity call format buffer = let r = request capacity c call format buffer in after-line r n (perform r n)
 
 unfoldable pub step : ℕ → Call → List ℕ → List ℕ → Nucleus → Result
 step capacity call format buffer n = serve (admitted direct-commands capacity call n) capacity call format buffer

@@ -2,7 +2,7 @@
 use Prim.Native.Nat.{ℕ, _*_}
 use mathlib.Core.Bool.{Bool, true, not, _&&_, _||_}
 use mathlib.Core.List.{List, [], _∷_}
-use lib.Dec.{leb, ltb}
+use lib.Dec.{eqb, leb, ltb}
 use lib.ListN.{length}
 use Rattle.lists.specs.Tests.{cond, within}
 use Rattle.lists.specs.Folds.{all}
@@ -10,11 +10,14 @@ use Rattle.definition.specs.Table.{files-of}
 use Rattle.layout.specs.Layout.{store-size, image-length, place, isn-found}
 use Rattle.validity.specs.Validity.{valid}
 use Rattle.repeats.specs.Repeats.{repeated}
+use Rattle.queue.specs.Queue.{holder, held-by}
 use Rattle.definition.specs.declared.Definition.{Definition}
 use Rattle.definition.specs.declared.File.{File}
 use Rattle.entries.specs.declared.Entry.{Entry}
 use Rattle.nucleus.specs.Users.{is-active, is-ready}
-use Rattle.nucleus.specs.Nucleus.{Nucleus, max-users, max-capacity, max-et-data, user-at, entries-of}
+use Rattle.nucleus.specs.Nucleus.{Nucleus, max-users, max-capacity, max-et-data, user-at, user-of, entries-of}
+use Rattle.nucleus.specs.Target.{other-holds}
+use Rattle.nucleus.specs.Waiters.{waiters-of}
 use Rattle.nucleus.specs.declared.User.{User}
 use Rattle.nucleus.specs.declared.EtData.{EtData}
 use Rattle.nucleus.specs.declared.State.{State}
@@ -48,6 +51,14 @@ assigned-made isns [] = true
 assigned-made [] (f ∷ fs) = true
 assigned-made (isn ∷ isns) (f ∷ fs) = leb isn (f .«max_isn») && assigned-made isns fs
 
+-- ---- who waits. Document 02, No. 1: "a waiter has a session and another holds his record"; and nobody waits twice
+abbrev pub waiter-made : Nucleus → Entry → Bool
+waiter-made n w =
+    within 1 max-users (w .user)
+    && user-of n (w .user) .session
+    && eqb (held-by (waiters-of n) (w .user)) 1
+    && other-holds (w .user) (holder (entries-of n) (w .file) (w .isn))
+
 -- "Well made: the kept table is valid, at most H entries, no file and ISN in two, .."
 unfoldable pub well-made : ℕ → Nucleus → Bool
 well-made capacity n =
@@ -58,3 +69,5 @@ well-made capacity n =
     && all (user-made (n .state .clock)) (n .state .users)
     && assigned-made (n .state .«last_assigned») (files-of (n .state .definition))
     && all data-made (n .state .«et_data»)
+    && leb (n .state .«wait_queue» .waiting) max-users
+    && all (waiter-made n) (waiters-of n)

@@ -54,6 +54,9 @@ pub const ACCESS_ONLY: u8 = b'A';
 // L1: the record as ended transactions left it.
 pub const COMMITTED: u8 = b'C';
 
+// HI and L4: wait in line for a record that another holds.
+pub const WAIT: u8 = b'W';
+
 // A call's arguments, but for its two buffers.
 pub struct Call {
     pub command: [u8; 2],
@@ -85,6 +88,7 @@ pub enum Response {
     RecordLength,
     ValueInvalid,
     NotFound,
+    Waiting,
     HeldByAnother,
     Presence,
     NotHeld,
@@ -158,6 +162,15 @@ pub struct EtData {
     pub bytes: [u8; MAX_ET_DATA],
 }
 
+// Who waits for which record, oldest first (document 02, No. 1: the lines of all records in one): a small hold queue of its own, with a place for
+// each user. An entry of it is a user, a file and an ISN; its `changed` says that he waits by L4, and not by HI.
+#[repr(C)]
+pub struct WaitQueue {
+    pub places: [u64; MAX_USERS],
+    // The places in use.
+    pub waiting: usize,
+}
+
 pub struct State {
     pub definition: Definition,
     pub clock: u32,
@@ -168,4 +181,5 @@ pub struct State {
     pub last_assigned: [u16; MAX_FILES],
     // The entries in use in the hold queue.
     pub count: usize,
+    pub wait_queue: WaitQueue,
 }

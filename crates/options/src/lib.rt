@@ -2,7 +2,7 @@
 ghost use mathlib.Core.Bool.{_&&_};
 ghost use mathlib.Core.Path.{_≡_};
 ghost use lib.Dec.{eqb};
-ghost use Rattle.nucleus.specs.Commands.{one-of, reading-values, reading-committed, changing-held, has-option, option-I};
+ghost use Rattle.nucleus.specs.Commands.{one-of, reading-values, reading-committed, changing-held, may-wait, has-option, option-I, option-W};
 ghost use Rattle.options.specs.Options.{opening-only};
 use nucleus::ACCESS_ONLY;
 use nucleus::AT_OR_ABOVE;
@@ -10,6 +10,7 @@ use nucleus::BLANK;
 use nucleus::COMMITTED;
 use nucleus::Command;
 use nucleus::TAKE_HOLD;
+use nucleus::WAIT;
 
 // L1 and L4.
 fn reads_values(command: Command) -> bool
@@ -41,6 +42,16 @@ fn reads_committed(command: Command) -> bool
     }
 }
 
+// HI and L4, which may wait for a record that another holds.
+fn may_wait(command: Command) -> bool
+    ensures { λ r. ⌜ r ≡ one-of may-wait command ⌝ }
+{
+    match command {
+        Command::Hi | Command::L4 => true,
+        _ => false,
+    }
+}
+
 fn opens(command: Command) -> bool
     ensures { λ r. ⌜ r ≡ one-of opening-only command ⌝ }
 {
@@ -60,6 +71,7 @@ pub fn has_option(command: Command, option: u8) -> bool
         TAKE_HOLD => changes_held(command),
         ACCESS_ONLY => opens(command),
         COMMITTED => reads_committed(command),
+        WAIT => may_wait(command),
         _ => false,
     }
 }
@@ -70,6 +82,16 @@ pub fn seeks(command: Command, option: u8) -> bool
 {
     if reads_values(command) {
         return option == AT_OR_ABOVE;
+    }
+    false
+}
+
+// HI and L4 with option `W`, which wait in line.
+pub fn waits(command: Command, option: u8) -> bool
+    ensures { λ r. ⌜ r ≡ (one-of may-wait command && eqb option option-W) ⌝ }
+{
+    if may_wait(command) {
+        return option == WAIT;
     }
     false
 }

@@ -1,18 +1,21 @@
--- Laws of the hold queue: what looking up finds; what adding an entry makes of the list of entries.
+-- Laws of the hold queue: what looking up finds, and counting; what adding an entry makes of the list of entries.
 -- Assumes nothing.
 use Prim.Native.Nat.{ℕ, zero, suc, _+_, _≤_, suc-le-suc, _<_}
 use native.Mathlib.Nat.{le-of-suc-le-suc}
 use native.Mathlib.Omega.{arith}
 use mathlib.Core.Path.{_≡_, refl, sym, ap, _∙_}
-use mathlib.Core.Bool.{Bool, true, false}
-use mathlib.Core.List.{List, [], _∷_, _++_}
+use mathlib.Core.Bool.{Bool, true, false, not}
+use mathlib.Core.List.{List, [], _∷_, _++_, map}
+use lib.Dec.{eqb}
 use lib.ListN.{length, getD, set, length-set}
 use lib.Seq.{getD-set-same, set-out}
-use Rattle.lists.specs.Folds.{any}
-use Rattle.lists.specs.Tests.{Outcome, holds, fails, outcome}
+use borrow.Author.Tests.{eqb-true, not-true}
+use Rattle.lists.specs.Folds.{any, total, distinct, any-agree}
+use Rattle.lists.specs.Maps.{any-over}
+use Rattle.lists.specs.Tests.{Outcome, holds, fails, outcome, not-both, and-left, and-right, or-left, or-right, eqb-self, eqb-comm}
 use Rattle.entries.specs.Entries.{bit, pack-of, is-of, entries}
 use Rattle.entries.specs.Laws.{Shape, unpack-pack, no-entry, entries-last, entries-kept}
-use Rattle.queue.specs.Queue.{seek, holder, append}
+use Rattle.queue.specs.Queue.{seek, holder, one-of, held-by, append}
 use Rattle.queue.specs.declared.Lookup.{Lookup}
 use Rattle.queue.specs.declared.Lookup.the-variants.{Held, Free}
 use Rattle.entries.specs.declared.Entry.{Entry}
@@ -88,6 +91,62 @@ module _ (file isn : ℕ) where
 
   pub free-none : (es : List Entry) → holder es file isn ≡ Free → any (is-of file isn) es ≡ false
   free-none es h = sym (held-any file isn es) ∙ ap is-held h
+
+-- of a list with others behind it: the same, where it finds, and else the last
+seek-front : (file isn : ℕ) (es fs : List Entry) (i : ℕ) → any (is-of file isn) es ≡ true → seek file isn (es ++ fs) i ≡ seek file isn es i
+seek-front file isn [] fs i h = not-both false h refl
+seek-front file isn (e ∷ es) fs i h = go (outcome (is-of file isn e)) (seek-front file isn es fs (i + 1))
+  where
+    go : Outcome (is-of file isn e) → (any (is-of file isn) es ≡ true → seek file isn (es ++ fs) (i + 1) ≡ seek file isn es (i + 1)) → seek file isn (e ∷ es ++ fs) i ≡ seek file isn (e ∷ es) i
+    go (holds t) later = rw t
+    go (fails t) later = rw t (later (rw t at h))
+
+pub holder-front : (file isn : ℕ) (es fs : List Entry) → is-held (holder es file isn) ≡ true → holder (es ++ fs) file isn ≡ holder es file isn
+unfolding holder
+holder-front file isn es fs h = seek-front file isn es fs 0 (sym (held-any file isn es) ∙ h)
+
+seek-last : (file isn : ℕ) (e : Entry) (es : List Entry) (i : ℕ) → any (is-of file isn) es ≡ false → is-of file isn e ≡ true → seek file isn (es ++ e ∷ []) i ≡ Held (i + length es) e
+seek-last file isn e [] i h t = let z : i + 0 ≡ i = omega arith in rw (t, z)
+seek-last file isn e (x ∷ es) i h t =
+    let z : i + suc (length es) ≡ i + 1 + length es = omega arith in
+    rw (or-left (is-of file isn x) (any (is-of file isn) es) h, z) (seek-last file isn e es (i + 1) (or-right (is-of file isn x) (any (is-of file isn) es) h) t)
+
+pub holder-last : (es : List Entry) (e : Entry) → holder es (e .file) (e .isn) ≡ Free → holder (es ++ e ∷ []) (e .file) (e .isn) ≡ Held (length es) e
+unfolding holder
+holder-last es e free =
+    let here : is-of (e .file) (e .isn) e ≡ true = rw (eqb-self (e .file), eqb-self (e .isn)) in
+    seek-last (e .file) (e .isn) e es 0 (free-none (e .file) (e .isn) es free) here ∙ ap (λ k. Held k e) (omega arith)
+
+-- two entries of one record, either way round
+pub is-of-swap : (e f : Entry) → is-of (f .file) (f .isn) e ≡ is-of (e .file) (e .isn) f
+is-of-swap e f = rw (eqb-comm (e .file) (f .file), eqb-comm (e .isn) (f .isn))
+
+-- ---- how many a user has: one, where all entries are of different users
+none-held : (user : ℕ) (es : List Entry) → any (λ (e : Entry). eqb (e .user) user) es ≡ false → total (one-of user) es ≡ 0
+none-held user [] h = refl
+none-held user (e ∷ es) h =
+    let rest : total (one-of user) es ≡ 0 = none-held user es (or-right (eqb (e .user) user) (any (λ (x : Entry). eqb (x .user) user) es) h) in
+    rw (or-left (eqb (e .user) user) (any (λ (x : Entry). eqb (x .user) user) es) h) (omega (arith, rest))
+
+one-held : (user : ℕ) (es : List Entry) → distinct eqb (map (λ (e : Entry). e .user) es) ≡ true → any (λ (e : Entry). eqb (e .user) user) es ≡ true → total (one-of user) es ≡ 1
+one-held user [] d h = not-both false h refl
+one-held user (e ∷ es) d h = go (outcome (eqb (e .user) user)) (one-held user es (and-right (not (any (eqb (e .user)) users)) (distinct eqb users) d))
+  where
+    users : List ℕ
+    users = map (λ (x : Entry). x .user) es
+
+    go : Outcome (eqb (e .user) user) → (any (λ (x : Entry). eqb (x .user) user) es ≡ true → total (one-of user) es ≡ 1) → total (one-of user) (e ∷ es) ≡ 1
+    go (holds t) later =
+        let alone : any (eqb (e .user)) users ≡ false = not-true (any (eqb (e .user)) users) (and-left (not (any (eqb (e .user)) users)) (distinct eqb users) d) in
+        let others : any (λ (x : Entry). eqb (x .user) user) es ≡ false =
+        any-agree (λ (x : Entry). eqb (x .user) user) (λ (x : Entry). eqb user (x .user)) (λ x. eqb-comm (x .user) user) es
+        ∙ sym (any-over (λ (x : Entry). x .user) (eqb user) es) ∙ rw (eqb-true (e .user) user t) at alone in
+        rw t (omega (arith, none-held user es others))
+    go (fails t) later = rw t (omega (arith, later (rw t at h)))
+
+pub held-once : (user : ℕ) (es : List Entry) → distinct eqb (map (λ (e : Entry). e .user) es) ≡ true → any (λ (e : Entry). eqb (e .user) user) es ≡ true → held-by es user ≡ 1
+unfolding held-by
+held-once user es d h = one-held user es d h
 
 -- ---- an entry more
 pub entries-append : (words : List ℕ) (count : ℕ) (e : Entry) → Shape e → count < length words → entries (append words count e) (count + 1) ≡ entries words count ++ e ∷ []

@@ -9,7 +9,7 @@ use nucleus::Transaction;
 use nucleus::User;
 use removal::Removal;
 
-// Lets entries go with their images; answers how many are left. Nothing else removes an entry.
+// Lets entries go with their images; answers how many are left. Nothing else removes an entry from the hold queue.
 pub fn let_go(
     count: usize,
     queue: &mut [u64],

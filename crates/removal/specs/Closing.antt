@@ -6,10 +6,10 @@ use native.Mathlib.Omega.{arith}
 use mathlib.Core.Path.{_≡_, refl, ap, _∙_}
 use mathlib.Core.Bool.{Bool, true, false}
 use mathlib.Core.List.{List, [], _∷_, _++_, append-nil, append-assoc}
-use lib.ListN.{length, take, drop, length-append, length-take, length-drop}
-use lib.Seq.{paste, take-at, drop-at, drop-drop}
-use Rattle.lists.specs.Tests.{cond}
-use Rattle.lists.specs.Folds.{total}
+use lib.ListN.{length, take, drop, length-append, length-take, length-drop, take-append-drop}
+use lib.Seq.{paste, take-at, take-add, drop-at, drop-drop, length-take-le}
+use Rattle.lists.specs.Tests.{cond, not-both}
+use Rattle.lists.specs.Folds.{all, total}
 use Rattle.entries.specs.Entries.{bit}
 use Rattle.lists.specs.Copies.{rest-alike}
 
@@ -25,6 +25,11 @@ set-count-most (false ∷ bs) = omega (arith, set-count-most bs)
 pub set-count-last : (bs : List Bool) (b : Bool) → set-count (bs ++ b ∷ []) ≡ set-count bs + bit b
 set-count-last [] b = omega arith
 set-count-last (c ∷ bs) b = omega (arith, set-count-last bs b)
+
+pub set-count-all : (bs : List Bool) → all (λ b. b) bs ≡ true → set-count bs ≡ length bs
+set-count-all [] h = refl
+set-count-all (true ∷ bs) h = omega (arith, set-count-all bs h)
+set-count-all (false ∷ bs) h = not-both false h refl
 
 module _ {A : Type 0} (n : ℕ) where
   -- of a list in blocks of n elements, those whose flag is set
@@ -96,3 +101,15 @@ module _ {A : Type 0} (n : ℕ) where
   pub closed-none : (l : List A) → closed [] l ≡ l
   unfolding closed
   closed-none l = refl
+
+  -- all are kept
+  picked-all : (bs : List Bool) (l : List A) → all (λ b. b) bs ≡ true → picked bs l ≡ take (length bs * n) l
+  picked-all [] l h = let z : 0 * n ≡ 0 = omega arith in rw z
+  picked-all (true ∷ bs) l h =
+      let z : suc (length bs) * n ≡ n + length bs * n = omega arith in
+      rw (z, take-add n (length bs * n) l) (ap (λ t. take n l ++ t) (picked-all bs (drop n l) h))
+  picked-all (false ∷ bs) l h = not-both false h refl
+
+  pub closed-all : (bs : List Bool) (l : List A) → length bs * n ≤ length l → all (λ b. b) bs ≡ true → closed bs l ≡ l
+  unfolding closed
+  closed-all bs l room h = rw (picked-all bs l h, length-take-le (length bs * n) l room) (take-append-drop (length bs * n) l)

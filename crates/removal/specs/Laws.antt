@@ -10,12 +10,13 @@ use lib.Dec.{leb}
 use lib.ListN.{length, take, drop, length-map, length-take, length-drop}
 use lib.Seq.{take-at, drop-at}
 use borrow.Author.Tests.{leb-true}
-use Rattle.lists.specs.Tests.{cond, Outcome, holds, fails, outcome, and-left, and-right}
+use Rattle.lists.specs.Tests.{cond, Outcome, holds, fails, outcome, and-left, and-right, or-left, or-right}
+use Rattle.lists.specs.Folds.{any, all}
 use Rattle.entries.specs.Entries.{unpack-of, entries}
 use Rattle.entries.specs.Laws.{entries-are, length-entries}
 use Rattle.lists.specs.Sift.{sift}
-use Rattle.removal.specs.Closing.{set-count, set-count-most, picked, closed-is, closed-front, length-closed}
-use Rattle.removal.specs.Removal.{stays, staying, fits, remove-queue, remove-images, remove-count}
+use Rattle.removal.specs.Closing.{set-count, set-count-most, set-count-all, picked, closed, closed-is, closed-front, closed-all, length-closed}
+use Rattle.removal.specs.Removal.{goes, stays, staying, fits, remove-queue, remove-images, remove-count}
 use Rattle.images.specs.Images.{with-images}
 use Rattle.entries.specs.declared.Entry.{Entry}
 use Rattle.removal.specs.declared.Removal.{Removal}
@@ -115,3 +116,25 @@ module _ (words images : List ℕ) (count width : ℕ) (which : Removal) where
     with-images-remove =
         let inside : length (entries words count) * width ≤ length images = rw (← (length-map (entries words count) (stays which))) image-room in
         rw (entries-remove, images-are) (with-images-sift width (stays which) (entries words count) images (drop (set-count F * width) images) inside)
+
+-- ---- where none goes, nothing changes
+none-goes : (which : Removal) (es : List Entry) → any (goes which) es ≡ false → all (λ b. b) (staying which es) ≡ true
+none-goes which [] h = refl
+none-goes which (e ∷ es) h = rw (or-left (goes which e) (any (goes which) es) h) (none-goes which es (or-right (goes which e) (any (goes which) es) h))
+
+module _ (words images : List ℕ) (count width : ℕ) (which : Removal) (none : any (goes which) (entries words count) ≡ false) where
+  pub remove-none-queue : remove-queue words images count width which ≡ words
+  unfolding remove-queue
+  remove-none-queue = go (outcome (fits words images count width))
+    where
+      go : Outcome (fits words images count width) → cond (fits words images count width) (closed 1 (F words images count width which) words) words ≡ words
+      go (holds t) = rw t (closed-all 1 (F words images count width which) words (word-room words images count width which t) (none-goes which (entries words count) none))
+      go (fails t) = rw t
+
+  pub remove-none-count : remove-count words images count width which ≡ count
+  unfolding remove-count
+  remove-none-count = go (outcome (fits words images count width))
+    where
+      go : Outcome (fits words images count width) → cond (fits words images count width) (set-count (F words images count width which)) count ≡ count
+      go (holds t) = rw t (set-count-all (F words images count width which) (none-goes which (entries words count) none) ∙ size words images count width which t)
+      go (fails t) = rw t

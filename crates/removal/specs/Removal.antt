@@ -3,9 +3,10 @@ use Prim.Native.Nat.{ℕ, _*_}
 use mathlib.Core.Bool.{Bool, not, _&&_}
 use mathlib.Core.List.{List, map}
 use lib.Dec.{eqb, leb}
-use lib.ListN.{length}
+use lib.ListN.{length, take}
 use Rattle.lists.specs.Tests.{cond}
-use Rattle.entries.specs.Entries.{is-of, entries}
+use Rattle.lists.specs.Sift.{sift}
+use Rattle.entries.specs.Entries.{is-of, unpack-of, entries}
 use Rattle.removal.specs.Closing.{closed, set-count}
 use Rattle.entries.specs.declared.Entry.{Entry}
 use Rattle.removal.specs.declared.Removal.{Removal}
@@ -39,3 +40,10 @@ module _ (words images : List ℕ) (count width : ℕ) (which : Removal) where
   -- how many entries are left
   unfoldable pub remove-count : ℕ
   remove-count = cond (fits words images count width) (set-count (staying which (entries words count))) count
+
+-- ---- the words of the entries that go, oldest first, as many as there are places for
+abbrev pub going : Removal → List ℕ → List ℕ
+going which words = sift (λ w. goes which (unpack-of w)) words
+
+unfoldable pub picked-out : List ℕ → ℕ → Removal → ℕ → List ℕ
+picked-out words count which places = take places (going which (take count words))

@@ -2,8 +2,8 @@
 ghost use mathlib.Core.Path.{_≡_};
 ghost use Prim.Native.Nat.{_+_, _*_, _≤_, _<_};
 ghost use lib.ListN.{length, drop, getD, set};
-ghost use lib.Seq.{paste};
-ghost use Rattle.removal.specs.Removal.{goes, remove-queue, remove-images, remove-count};
+ghost use lib.Seq.{paste, sets};
+ghost use Rattle.removal.specs.Removal.{goes, remove-queue, remove-images, remove-count, picked-out};
 use entries::Entry;
 
 // Which entries a removal takes.
@@ -81,4 +81,26 @@ pub fn remove(
         i += 1;
     }
     kept
+}
+
+// Copies the words of the entries that a removal takes, oldest first, as many as `out` has places for; answers how many.
+pub fn pick_out(queue: &[u64], count: usize, which: Removal, out: &mut [u64]) -> usize
+    ensures { λ r. ⌜ r ≡ length (picked-out (now (queue .entry)) count which (length (now (out .entry)))) ⌝ }
+    ensures { λ _. ⌜ now (out .exit) ≡ sets (now (out .entry)) 0 (picked-out (now (queue .entry)) count which (length (now (out .entry)))) ⌝ }
+{
+    let n = slices::least(count, queue.len());
+    let mut written: usize = 0;
+    let mut i = 0;
+    while i < n {
+        if written == out.len() {
+            return written;
+        }
+        let word = queue[i];
+        i += 1;
+        if goes(which, entries::unpack(word)) {
+            out[written] = word;
+            written += 1;
+        }
+    }
+    written
 }

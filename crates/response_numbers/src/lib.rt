@@ -25,6 +25,7 @@ pub fn number(response: Response) -> u16
         Response::RecordLength => 53,
         Response::ValueInvalid => 55,
         Response::NotFound => 3,
+        Response::Waiting => 20,
         Response::HeldByAnother => 145,
         Response::Presence => 113,
         Response::NotHeld => 144,

@@ -9,7 +9,7 @@ ghost use Rattle.fields.specs.Fields.{read-fields};
 ghost use Rattle.records.specs.Records.{record-length};
 ghost use Rattle.nucleus.specs.Rows.{first-cause};
 ghost use Rattle.shares.specs.Shares.{verdict};
-ghost use Rattle.shares.specs.Chains.{sought, row-other, row-there, rows-room, version-at};
+ghost use Rattle.shares.specs.Chains.{sought, row-waits, row-other, row-there, rows-room, version-at};
 ghost use Rattle.shares.specs.Outcomes.{l1-done, l1-buffer, l4-done, l4-queue, l4-buffer};
 ghost use Rattle.retrieval.specs.Retrieval.{read-target};
 use committed::Version;
@@ -103,7 +103,7 @@ pub fn l1<'a>(
     shares::good(isn, quantity, 0, share)
 }
 
-// L4's rows of an ISN that it has: 145, 113, 47 and 70.
+// L4's rows of an ISN that it has: 20, 145, 113, 47 and 70.
 fn holdable(
     call: Call,
     most: usize,
@@ -113,11 +113,11 @@ fn holdable(
     queue: &[u64],
     isn: u16,
 ) -> Verdict
-    ensures { λ r. ⌜ r ≡ verdict (first-cause (row-other call share (now (queue .entry)) isn ∷ row-there f (now (part .entry)) isn ∷ rows-room call share (now (queue .entry)) most isn)) ⌝ }
+    ensures { λ r. ⌜ r ≡ verdict (first-cause (row-waits call share (now (queue .entry)) isn ∷ row-other call share (now (queue .entry)) isn ∷ row-there f (now (part .entry)) isn ∷ rows-room call share (now (queue .entry)) most isn)) ⌝ }
 {
-    let found = queue::holder(queue, share.count, call.file, isn);
-    if hold_rows::other_holds(found, call.user) {
-        return Verdict::Refused(Response::HeldByAnother);
+    let others = hold_rows::others(call, share, queue, isn);
+    if let Verdict::Refused(cause) = others {
+        return Verdict::Refused(cause);
     }
     if !store::has_record(f, part, isn) {
         return Verdict::Refused(Response::Presence);

@@ -1,6 +1,7 @@
-// Sessions: one that opens by itself, who is due, and the clock's mark.
+// Sessions: one that opens by itself, who is due, the clock's mark, and a transaction's start.
 ghost use mathlib.Core.Path.{_≡_};
-ghost use Rattle.nucleus.specs.Users.{opened, fresh-user, is-due, with-overdue};
+ghost use Rattle.nucleus.specs.Users.{opened, fresh-user, is-due, with-overdue, started};
+use nucleus::Transaction;
 use nucleus::User;
 
 // "A user with no session gets one".
@@ -43,5 +44,21 @@ pub fn with_overdue(mut user: User, overdue: bool) -> User
     ensures { λ r. ⌜ r ≡ with-overdue overdue user ⌝ }
 {
     user.overdue = overdue;
+    user
+}
+
+// "A transaction opens at the user's first new hold".
+pub fn started(mut user: User, clock: u32) -> User
+    ensures { λ r. ⌜ r ≡ started clock user ⌝ }
+{
+    if user.transaction.active {
+        return user;
+    }
+    let transaction = Transaction {
+        active: true,
+        begun: clock,
+        ready: false,
+    };
+    user.transaction = transaction;
     user
 }

@@ -17,6 +17,7 @@ use nucleus::MAX_ET_DATA;
 use nucleus::MAX_USERS;
 use nucleus::Response;
 use nucleus::State;
+use nucleus::WaitQueue;
 use reading::End;
 
 // What set-up answers, and the state that it gives. Where it refuses, the state has no table, so that every call on it answers 12.
@@ -34,12 +35,16 @@ fn no_data() -> EtData
     }
 }
 
-// "the kept clock is 0, no user is open, there is no entry and no ET data: a fresh nucleus".
+// "the kept clock is 0, no user is open, there is no entry and no ET data: a fresh nucleus"; nobody waits.
 fn fresh_state(definition: Definition) -> State
     ensures { λ r. ⌜ r ≡ fresh-state definition ⌝ }
 {
     let users = [sessions::fresh_user(); MAX_USERS];
     let et_data = [no_data(); MAX_USERS];
+    let line = WaitQueue {
+        places: [0; MAX_USERS],
+        waiting: 0,
+    };
     State {
         definition,
         clock: 0,
@@ -47,6 +52,7 @@ fn fresh_state(definition: Definition) -> State
         et_data,
         last_assigned: [0; MAX_FILES],
         count: 0,
+        wait_queue: line,
     }
 }
 

@@ -33,7 +33,7 @@ use Rattle.removal.specs.declared.Removal.the-variants.{One, Unchanged}
 use Rattle.committed.specs.Committed.{committed-version, version-there}
 use Rattle.committed.specs.declared.Version.{Version}
 use Rattle.committed.specs.declared.Version.the-variants.{Stored}
-use Rattle.nucleus.specs.Commands.{option-I, option-H, option-C}
+use Rattle.nucleus.specs.Commands.{option-I, option-H, option-C, option-W}
 use Rattle.nucleus.specs.Users.{max-sequence, started}
 use Rattle.nucleus.specs.Nucleus.{max-et-data}
 use Rattle.nucleus.specs.Target.{is-isn, isn-in, is-holder, other-holds, is-changed}
@@ -41,7 +41,7 @@ use Rattle.nucleus.specs.Rows.{Row, row, first-cause}
 use Rattle.nucleus.specs.declared.Call.{Call}
 use Rattle.nucleus.specs.declared.EtData.{EtData}
 use Rattle.nucleus.specs.declared.Response.{Response}
-use Rattle.nucleus.specs.declared.Response.the-variants.{StateInvalid, FormatInvalid, FieldTwice, RecordLength, ValueInvalid, NotFound, HeldByAnother, Presence, NotHeld, AlreadyChanged, FileFull, HoldLimit, QueueFull, ValueTaken}
+use Rattle.nucleus.specs.declared.Response.the-variants.{StateInvalid, FormatInvalid, FieldTwice, RecordLength, ValueInvalid, NotFound, Waiting, HeldByAnother, Presence, NotHeld, AlreadyChanged, FileFull, HoldLimit, QueueFull, ValueTaken}
 use Rattle.shares.specs.Shares.{share}
 use Rattle.shares.specs.declared.Share.{Share}
 
@@ -84,6 +84,13 @@ module _ (call : Call) (x : Share) (queue : List ℕ) where
   abbrev pub holder-at : ℕ → Lookup
   holder-at isn = holder in-use (call .file) isn
 
+  -- 20 of HI and L4
+  abbrev pub at-limit : Bool
+  at-limit = leb (x .user .«hold_limit») (held-by in-use (call .user))
+
+  abbrev pub row-waits : ℕ → Row
+  row-waits isn = row Waiting (eqb (call .option) option-W && other-holds (call .user) (holder-at isn) && (x .waits || not at-limit))
+
   -- 145
   abbrev pub row-other : ℕ → Row
   row-other isn = row HeldByAnother (other-holds (call .user) (holder-at isn))
@@ -98,7 +105,7 @@ module _ (call : Call) (x : Share) (queue : List ℕ) where
 
   abbrev pub rows-room : ℕ → ℕ → List Row
   rows-room room isn =
-      row HoldLimit (is-new isn && leb (x .user .«hold_limit») (held-by in-use (call .user)))
+      row HoldLimit (is-new isn && at-limit)
       ∷ row QueueFull (is-new isn && leb room (x .count))
       ∷ []
 
@@ -111,7 +118,7 @@ module _ (call : Call) (x : Share) (queue : List ℕ) where
 
   unfoldable pub held-share : ℕ → ℕ → Share
   held-share clock isn =
-      cond (is-holder (call .user) (holder-at isn)) x (share (started clock (x .user)) (x .«et_data») (x .«last_assigned») next-count)
+      cond (is-holder (call .user) (holder-at isn)) x (share (started clock (x .user)) (x .«et_data») (x .«last_assigned») next-count (x .waits))
 
   unfoldable pub held-queue : ℕ → Bool → List ℕ
   held-queue isn existed = cond (is-holder (call .user) (holder-at isn)) queue (append queue (x .count) (entry-at isn existed))
@@ -136,7 +143,7 @@ module _ (call : Call) (x : Share) (queue : List ℕ) where
 
   -- ---- HI
   unfoldable pub hi-cause : ℕ → Option Response
-  hi-cause room = first-cause (row-other (call .isn) ∷ rows-room room (call .isn))
+  hi-cause room = first-cause (row-waits (call .isn) ∷ row-other (call .isn) ∷ rows-room room (call .isn))
 
   -- ---- RI; of ISN 0 it is never refused
   unfoldable pub ri-cause : Option Response
@@ -180,7 +187,7 @@ module _ (call : Call) (f : File) (part : List ℕ) where
   unfoldable pub l4-cause : Share → List ℕ → ℕ → List ℕ → List ℕ → Option Response
   l4-cause x queue room format buffer =
       first-cause (
-      rows-read f format buffer ++ row-found ∷ row-other call x queue sought-isn ∷ row-there f part sought-isn ∷ rows-room call x queue room sought-isn
+      rows-read f format buffer ++ row-found ∷ row-waits call x queue sought-isn ∷ row-other call x queue sought-isn ∷ row-there f part sought-isn ∷ rows-room call x queue room sought-isn
       )
 
 -- ---- A1, N1, N2

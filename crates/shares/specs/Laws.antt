@@ -51,7 +51,7 @@ module _ (call : Call) (s : State) where
       go Nowhere = refl
 
   -- whose user, ET data and count changed
-  pub share-back : (user : User) (held : EtData) (count : ℕ) → with-share call (share user held (x .«last_assigned») count) s ≡ with-user u user (with-data u held (with-count count s))
+  pub share-back : (user : User) (held : EtData) (count : ℕ) → with-share call (share user held (x .«last_assigned») count (x .waits)) s ≡ with-user u user (with-data u held (with-count count s))
   unfolding with-share
   share-back user held count = λ i. record {
     definition = s .definition;
@@ -60,6 +60,7 @@ module _ (call : Call) (s : State) where
     «et_data» = set (s .«et_data») (u - 1) held;
     «last_assigned» = assigned-kept i;
     count = count;
+    «wait_queue» = s .«wait_queue»;
   }
 
   data-kept : (user : User) (count : ℕ) → with-user u user (with-data u (x .«et_data») (with-count count s)) ≡ with-user u user (with-count count s)
@@ -70,6 +71,7 @@ module _ (call : Call) (s : State) where
     «et_data» = set-getD (s .«et_data») (u - 1) beyond-data i;
     «last_assigned» = s .«last_assigned»;
     count = count;
+    «wait_queue» = s .«wait_queue»;
   }
 
   user-kept : (count : ℕ) → with-user u (x .user) (with-count count s) ≡ with-count count s
@@ -80,10 +82,11 @@ module _ (call : Call) (s : State) where
     «et_data» = s .«et_data»;
     «last_assigned» = s .«last_assigned»;
     count = count;
+    «wait_queue» = s .«wait_queue»;
   }
 
   -- user and count
-  pub user-back : (user : User) (count : ℕ) → with-share call (share user (x .«et_data») (x .«last_assigned») count) s ≡ with-user u user (with-count count s)
+  pub user-back : (user : User) (count : ℕ) → with-share call (share user (x .«et_data») (x .«last_assigned») count (x .waits)) s ≡ with-user u user (with-count count s)
   user-back user count = share-back user (x .«et_data») count ∙ data-kept user count
 
   -- count alone
@@ -108,6 +111,7 @@ module _ (call : Call) (s : State) where
         «et_data» = set (s .«et_data») (u - 1) (y .«et_data»);
         «last_assigned» = e j;
         count = y .count;
+        «wait_queue» = s .«wait_queue»;
       }
 
 -- what is left on a state that is the same as another

@@ -28,7 +28,7 @@ use Rattle.committed.specs.Committed.{version-there}
 use Rattle.nucleus.specs.Responses.{good}
 use Rattle.nucleus.specs.Nucleus.{Nucleus, nucleus, Request, request, result, entries-of, width-of}
 use Rattle.nucleus.specs.Target.{part-in, is-isn, isn-in, file, part, record-at, holder-of, target, new-record}
-use Rattle.nucleus.specs.Rows.{Row, row, first-cause, rows-last, file-unknown, isn-invalid, format-refused, field-twice, record-length-refused, value-refused, none-found, held-elsewhere, presence-refused, not-held, release-refused, file-full, limit-reached, queue-full, value-taken}
+use Rattle.nucleus.specs.Rows.{Row, row, first-cause, rows-last, file-unknown, isn-invalid, format-refused, field-twice, record-length-refused, value-refused, none-found, held-elsewhere, waits, presence-refused, not-held, release-refused, file-full, limit-reached, queue-full, value-taken}
 use Rattle.nucleus.specs.Effects.{imaged, imaged-at, with-part-of, with-last, written, erased, effect, effect-at}
 use Rattle.nucleus.specs.Step.{perform}
 use Rattle.nucleus.specs.declared.Call.{Call}
@@ -147,7 +147,7 @@ module _ (capacity : ℕ) (call : Call) (format buffer : List ℕ) (n : Nucleus)
 
       -- ---- E1
       e1-cause-is : first-cause (rows-last (request capacity E1 call format buffer) n) ≡ e1-cause call x (n .queue) f p capacity
-      unfolding e1-cause file-unknown isn-invalid format-refused field-twice record-length-refused value-refused none-found held-elsewhere presence-refused version-there not-held release-refused file-full limit-reached queue-full value-taken target
+      unfolding e1-cause file-unknown isn-invalid format-refused field-twice record-length-refused value-refused none-found held-elsewhere waits presence-refused version-there not-held release-refused file-full limit-reached queue-full value-taken target
       e1-cause-is = rw (there, valid) (simp or-false)
 
       pub perform-e1 : Performed E1 (e1-cause call x (n .queue) f p capacity) (empty f p (call .isn))
@@ -161,7 +161,7 @@ module _ (capacity : ℕ) (call : Call) (format buffer : List ℕ) (n : Nucleus)
       -- ---- A1 and N2
       module _ (small : record-length f ≤ max-scratch) where
         a1-cause-is : first-cause (rows-last (request capacity A1 call format buffer) n) ≡ a1-cause f p call x (n .queue) (n .images) (width-of n) capacity format buffer
-        unfolding a1-cause replaced taken new-record file-unknown isn-invalid format-refused field-twice record-length-refused value-refused none-found held-elsewhere presence-refused version-there not-held release-refused file-full limit-reached queue-full value-taken target
+        unfolding a1-cause replaced taken new-record file-unknown isn-invalid format-refused field-twice record-length-refused value-refused none-found held-elsewhere waits presence-refused version-there not-held release-refused file-full limit-reached queue-full value-taken target
         a1-cause-is = rw (there, valid, le-ltb max-scratch (record-length f) small) (simp or-false)
 
         pub perform-a1 : Performed A1 (a1-cause f p call x (n .queue) (n .images) (width-of n) capacity format buffer) (put-record f p (call .isn) (replaced f p format buffer (call .isn)))
@@ -173,7 +173,7 @@ module _ (capacity : ℕ) (call : Call) (format buffer : List ℕ) (n : Nucleus)
             (rw there)
 
         n2-cause-is : first-cause (rows-last (request capacity N2 call format buffer) n) ≡ n2-cause f p call x (n .queue) (n .images) (width-of n) capacity format buffer
-        unfolding n2-cause added taken new-record file-unknown isn-invalid format-refused field-twice record-length-refused value-refused none-found held-elsewhere presence-refused not-held release-refused file-full limit-reached queue-full value-taken target
+        unfolding n2-cause added taken new-record file-unknown isn-invalid format-refused field-twice record-length-refused value-refused none-found held-elsewhere waits presence-refused not-held release-refused file-full limit-reached queue-full value-taken target
         n2-cause-is = rw (there, valid, le-ltb max-scratch (record-length f) small) (simp or-false)
 
         pub perform-n2 : Performed N2 (n2-cause f p call x (n .queue) (n .images) (width-of n) capacity format buffer) (put-record f p (call .isn) (added f p format buffer (call .isn)))
@@ -210,7 +210,7 @@ module _ (capacity : ℕ) (call : Call) (format buffer : List ℕ) (n : Nucleus)
       n1-refused = n1-cause f p call x (n .queue) (n .images) (width-of n) capacity format buffer free
 
       n1-cause-is : first-cause (rows-last (request capacity N1 call format buffer) n) ≡ n1-refused
-      unfolding n1-cause added taken new-record file-unknown isn-invalid format-refused field-twice record-length-refused value-refused none-found held-elsewhere presence-refused not-held release-refused file-full limit-reached queue-full value-taken
+      unfolding n1-cause added taken new-record file-unknown isn-invalid format-refused field-twice record-length-refused value-refused none-found held-elsewhere waits presence-refused not-held release-refused file-full limit-reached queue-full value-taken
       n1-cause-is = go free refl
         where
           go : (o : Occupied) → free ≡ o → first-cause (rows-last (request capacity N1 call format buffer) n) ≡ n1-refused

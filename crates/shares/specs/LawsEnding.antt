@@ -12,7 +12,7 @@ use Rattle.nucleus.specs.Responses.{good}
 use Rattle.nucleus.specs.Nucleus.{Nucleus, request, result, width-of}
 use Rattle.nucleus.specs.Clock.{removed, backed-out}
 use Rattle.nucleus.specs.Target.{target}
-use Rattle.nucleus.specs.Rows.{first-cause, rows-last, file-unknown, isn-invalid, format-refused, field-twice, record-length-refused, value-refused, none-found, held-elsewhere, presence-refused, not-held, release-refused, file-full, limit-reached, queue-full, value-taken}
+use Rattle.nucleus.specs.Rows.{first-cause, rows-last, file-unknown, isn-invalid, format-refused, field-twice, record-length-refused, value-refused, none-found, held-elsewhere, waits, presence-refused, not-held, release-refused, file-full, limit-reached, queue-full, value-taken}
 use Rattle.nucleus.specs.Effects.{effect-at}
 use Rattle.nucleus.specs.Step.{perform}
 use Rattle.nucleus.specs.declared.Call.{Call}
@@ -29,7 +29,7 @@ module _ (capacity : ℕ) (call : Call) (format buffer : List ℕ) (n : Nucleus)
 
   -- ---- ET
   et-cause-is : first-cause (rows-last (request capacity Et call format buffer) n) ≡ et-cause buffer
-  unfolding file-unknown isn-invalid format-refused field-twice record-length-refused value-refused none-found held-elsewhere presence-refused not-held release-refused file-full limit-reached queue-full value-taken target
+  unfolding file-unknown isn-invalid format-refused field-twice record-length-refused value-refused none-found held-elsewhere waits presence-refused not-held release-refused file-full limit-reached queue-full value-taken target
   et-cause-is = refl
 
   pub perform-et : perform (request capacity Et call format buffer) n
@@ -46,7 +46,7 @@ module _ (capacity : ℕ) (call : Call) (format buffer : List ℕ) (n : Nucleus)
 
   -- ---- RE
   re-cause-is : first-cause (rows-last (request capacity Re call format buffer) n) ≡ re-cause (x .«et_data») buffer
-  unfolding file-unknown isn-invalid format-refused field-twice record-length-refused value-refused none-found held-elsewhere presence-refused not-held release-refused file-full limit-reached queue-full value-taken target
+  unfolding file-unknown isn-invalid format-refused field-twice record-length-refused value-refused none-found held-elsewhere waits presence-refused not-held release-refused file-full limit-reached queue-full value-taken target
   re-cause-is = simp or-false
 
   pub perform-re : perform (request capacity Re call format buffer) n ≡ result-on call n (re-done x buffer) (n .store) (n .queue) (n .images) (re-after x buffer)
@@ -62,26 +62,26 @@ module _ (capacity : ℕ) (call : Call) (format buffer : List ℕ) (n : Nucleus)
       ≡ result-on call n (bt-done call x (n .queue) (n .images) (width-of n))
       (restore (n .state .definition) (width-of n) (call .user) (n .queue) (n .images) (n .state .count) (n .store))
       (left-queue x (n .queue) (n .images) (width-of n) (All (call .user))) (left-images x (n .queue) (n .images) (width-of n) (All (call .user))) buffer
-  unfolding file-unknown isn-invalid format-refused field-twice record-length-refused value-refused none-found held-elsewhere presence-refused not-held release-refused file-full limit-reached queue-full value-taken target effect-at backed-out removed
+  unfolding file-unknown isn-invalid format-refused field-twice record-length-refused value-refused none-found held-elsewhere waits presence-refused not-held release-refused file-full limit-reached queue-full value-taken target effect-at backed-out removed
   perform-bt =
       let left = left-count x (n .queue) (n .images) (width-of n) (All (call .user)) in
       performed-as call n (request capacity Bt call format buffer) none _ _ _ _ buffer refl
       (λ passed. ap (λ k. result (good 0 (gone x (n .queue) (n .images) (width-of n) (All (call .user))) 0) k buffer) (on-state (user-back call (n .state) (ended (x .user)) left)))
 
   pub perform-op : perform (request capacity Op call format buffer) n ≡ result-on call n (op-done call x) (n .store) (n .queue) (n .images) buffer
-  unfolding file-unknown isn-invalid format-refused field-twice record-length-refused value-refused none-found held-elsewhere presence-refused not-held release-refused file-full limit-reached queue-full value-taken target effect-at
+  unfolding file-unknown isn-invalid format-refused field-twice record-length-refused value-refused none-found held-elsewhere waits presence-refused not-held release-refused file-full limit-reached queue-full value-taken target effect-at
   perform-op =
       performed-as call n (request capacity Op call format buffer) none _ (n .store) (n .queue) (n .images) buffer refl
       (λ passed. ap (λ k. result (good 0 0 0) k buffer) (on-state (user-back call (n .state) (op-done call x .share .user) (n .state .count))))
 
   pub perform-cl : perform (request capacity Cl call format buffer) n ≡ result-on call n (cl-done x) (n .store) (n .queue) (n .images) buffer
-  unfolding file-unknown isn-invalid format-refused field-twice record-length-refused value-refused none-found held-elsewhere presence-refused not-held release-refused file-full limit-reached queue-full value-taken target effect-at
+  unfolding file-unknown isn-invalid format-refused field-twice record-length-refused value-refused none-found held-elsewhere waits presence-refused not-held release-refused file-full limit-reached queue-full value-taken target effect-at
   perform-cl =
       performed-as call n (request capacity Cl call format buffer) none _ (n .store) (n .queue) (n .images) buffer refl
       (λ passed. ap (λ k. result (good 0 0 (x .user .sequence)) k buffer) (on-state (user-back call (n .state) (closed (x .user)) (n .state .count))))
 
   pub perform-pe : perform (request capacity Pe call format buffer) n ≡ result-on call n (pe-done x) (n .store) (n .queue) (n .images) buffer
-  unfolding file-unknown isn-invalid format-refused field-twice record-length-refused value-refused none-found held-elsewhere presence-refused not-held release-refused file-full limit-reached queue-full value-taken target effect-at
+  unfolding file-unknown isn-invalid format-refused field-twice record-length-refused value-refused none-found held-elsewhere waits presence-refused not-held release-refused file-full limit-reached queue-full value-taken target effect-at
   perform-pe =
       performed-as call n (request capacity Pe call format buffer) none _ (n .store) (n .queue) (n .images) buffer refl
       (λ passed. ap (λ k. result (good 0 0 0) k buffer) (on-state (user-back call (n .state) (made-ready (x .user)) (n .state .count))))

@@ -22,7 +22,7 @@ use Rattle.nucleus.specs.Users.{started}
 use Rattle.nucleus.specs.Nucleus.{Nucleus, nucleus, Request, request, Result, result, width-of}
 use Rattle.nucleus.specs.Clock.{removed}
 use Rattle.nucleus.specs.Target.{is-holder, target, record-at, holder-of}
-use Rattle.nucleus.specs.Rows.{Row, row, first-cause, rows-last, file-unknown, isn-invalid, format-refused, field-twice, record-length-refused, value-refused, none-found, held-elsewhere, presence-refused, not-held, release-refused, file-full, limit-reached, queue-full, value-taken}
+use Rattle.nucleus.specs.Rows.{Row, row, first-cause, rows-last, file-unknown, isn-invalid, format-refused, field-twice, record-length-refused, value-refused, none-found, held-elsewhere, waits, presence-refused, not-held, release-refused, file-full, limit-reached, queue-full, value-taken}
 use Rattle.nucleus.specs.Effects.{held, effect, effect-at}
 use Rattle.nucleus.specs.Step.{perform}
 use Rattle.nucleus.specs.declared.Call.{Call}
@@ -31,7 +31,7 @@ use Rattle.nucleus.specs.declared.Response.the-variants.{HoldLimit, QueueFull}
 use Rattle.queue.specs.Queue.{held-by}
 use Rattle.nucleus.specs.declared.Command.the-variants.{Hi, Ri}
 use Rattle.shares.specs.Shares.{share-of, share-with-count, with-share, done}
-use Rattle.shares.specs.Chains.{in-use, holder-at, is-new, row-other, rows-room, held-share, held-queue, hi-cause, ri-cause, left-count, left-queue, left-images, gone, released}
+use Rattle.shares.specs.Chains.{in-use, holder-at, is-new, row-waits, row-other, rows-room, held-share, held-queue, hi-cause, ri-cause, left-count, left-queue, left-images, gone, released}
 use Rattle.shares.specs.Outcomes.{hi-done, hi-queue, ri-done, ri-queue, ri-images}
 use Rattle.shares.specs.Laws.{result-on, on-state, user-back, count-back, share-kept, last-passed, row-passed, kept-same, performed-as}
 use Rattle.shares.specs.declared.Share.{Share}
@@ -105,7 +105,7 @@ module _ (capacity : ℕ) (call : Call) (format buffer : List ℕ) (n : Nucleus)
 
   -- of ISN 0: any file, defined or not
   pub perform-ri-all : eqb (call .isn) 0 ≡ true → RiPerformed
-  unfolding ri-cause file-unknown isn-invalid format-refused field-twice record-length-refused value-refused none-found held-elsewhere presence-refused not-held release-refused file-full limit-reached queue-full value-taken target
+  unfolding ri-cause file-unknown isn-invalid format-refused field-twice record-length-refused value-refused none-found held-elsewhere waits presence-refused not-held release-refused file-full limit-reached queue-full value-taken target
   perform-ri-all zero = ri-performed (rw zero)
 
   module _ (i : ℕ) (there : place (n .state .definition) (call .file) ≡ At i) where
@@ -117,12 +117,12 @@ module _ (capacity : ℕ) (call : Call) (format buffer : List ℕ) (n : Nucleus)
 
     module _ (valid : within 1 (f .«max_isn») (call .isn) ≡ true) where
       pub perform-ri : eqb (call .isn) 0 ≡ false → RiPerformed
-      unfolding ri-cause file-unknown isn-invalid format-refused field-twice record-length-refused value-refused none-found held-elsewhere presence-refused not-held release-refused file-full limit-reached queue-full value-taken target
+      unfolding ri-cause file-unknown isn-invalid format-refused field-twice record-length-refused value-refused none-found held-elsewhere waits presence-refused not-held release-refused file-full limit-reached queue-full value-taken target
       perform-ri one = ri-performed (rw (one, there, valid))
 
       -- ---- HI
       hi-cause-is : first-cause (rows-last (request capacity Hi call format buffer) n) ≡ hi-cause call x (n .queue) capacity
-      unfolding hi-cause file-unknown isn-invalid format-refused field-twice record-length-refused value-refused none-found held-elsewhere presence-refused not-held release-refused file-full limit-reached queue-full value-taken target
+      unfolding hi-cause file-unknown isn-invalid format-refused field-twice record-length-refused value-refused none-found held-elsewhere waits presence-refused not-held release-refused file-full limit-reached queue-full value-taken target
       hi-cause-is = rw (there, valid)
 
       hi-effect : capacity ≤ length (n .queue) → hi-cause call x (n .queue) capacity ≡ none
@@ -130,7 +130,7 @@ module _ (capacity : ℕ) (call : Call) (format buffer : List ℕ) (n : Nucleus)
           ≡ result-on call n (done (good (call .isn) 0 0) (held-share call x (n .queue) (n .state .clock) (call .isn))) (n .store)
           (held-queue call x (n .queue) (call .isn) (has-record f p (call .isn))) (n .images) buffer
       unfolding hi-cause effect-at target
-      hi-effect long passed = rw (held-is Hi (call .isn) (room-left (call .isn) (row-other call x (n .queue) (call .isn) ∷ []) [] long passed), there)
+      hi-effect long passed = rw (held-is Hi (call .isn) (room-left (call .isn) (row-waits call x (n .queue) (call .isn) ∷ row-other call x (n .queue) (call .isn) ∷ []) [] long passed), there)
 
       pub perform-hi : capacity ≤ length (n .queue)
           → perform (request capacity Hi call format buffer) n

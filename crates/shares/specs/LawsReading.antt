@@ -22,14 +22,14 @@ use Rattle.nucleus.specs.Commands.{option-I}
 use Rattle.nucleus.specs.Nucleus.{Nucleus, request, Result, result, width-of}
 use Rattle.nucleus.specs.Responses.{good}
 use Rattle.nucleus.specs.Target.{target}
-use Rattle.nucleus.specs.Rows.{first-cause, rows-last, file-unknown, isn-invalid, format-refused, field-twice, record-length-refused, value-refused, none-found, held-elsewhere, presence-refused, not-held, release-refused, file-full, limit-reached, queue-full, value-taken}
+use Rattle.nucleus.specs.Rows.{first-cause, rows-last, file-unknown, isn-invalid, format-refused, field-twice, record-length-refused, value-refused, none-found, held-elsewhere, waits, presence-refused, not-held, release-refused, file-full, limit-reached, queue-full, value-taken}
 use Rattle.nucleus.specs.Effects.{effect, effect-at}
 use Rattle.nucleus.specs.Step.{perform}
 use Rattle.nucleus.specs.declared.Call.{Call}
 use Rattle.nucleus.specs.declared.Command.the-variants.{L1, L4}
 use Rattle.nucleus.specs.declared.Response.{Response}
 use Rattle.shares.specs.Shares.{share-of}
-use Rattle.shares.specs.Chains.{rows-read, row-found, row-other, row-there, version-at, sought, sought-isn, l1-cause, l4-cause, held-share, held-queue}
+use Rattle.shares.specs.Chains.{rows-read, row-found, row-waits, row-other, row-there, version-at, sought, sought-isn, l1-cause, l4-cause, held-share, held-queue}
 use Rattle.shares.specs.Outcomes.{read-done, read-buffer, version-buffer, l1-done, l1-buffer, l4-done, l4-queue, l4-buffer}
 use Rattle.shares.specs.Laws.{result-on, kept-same, nothing-done, performed-as}
 use Rattle.shares.specs.LawsHolding.{room-left, held-is}
@@ -64,7 +64,7 @@ module _ (capacity : ℕ) (call : Call) (format buffer : List ℕ) (n : Nucleus)
   unfolding effect-at target sought read-buffer l4-cause version-bytes
   l4-effect long passed =
       let isn = sought-isn call f p in
-      let room = room-left capacity call format buffer n isn (rows-read f format buffer ++ row-found call f p ∷ row-other call x (n .queue) isn ∷ row-there f p isn ∷ []) [] long passed in
+      let room = room-left capacity call format buffer n isn (rows-read f format buffer ++ row-found call f p ∷ row-waits call x (n .queue) isn ∷ row-other call x (n .queue) isn ∷ row-there f p isn ∷ []) [] long passed in
       rw there (rw there at (ap (read-on (read-buffer call x f p format buffer)) (held-is capacity call format buffer n L4 isn room)))
 
   -- the ISN is the file's, or is sought
@@ -73,7 +73,7 @@ module _ (capacity : ℕ) (call : Call) (format buffer : List ℕ) (n : Nucleus)
     l1-refused = l1-cause call f p x (n .queue) (n .images) (width-of n) format buffer
 
     l1-cause-is : first-cause (rows-last (request capacity L1 call format buffer) n) ≡ l1-refused
-    unfolding l1-cause sought version-at file-unknown isn-invalid format-refused field-twice record-length-refused value-refused none-found held-elsewhere presence-refused not-held release-refused file-full limit-reached queue-full value-taken target
+    unfolding l1-cause sought version-at file-unknown isn-invalid format-refused field-twice record-length-refused value-refused none-found held-elsewhere waits presence-refused not-held release-refused file-full limit-reached queue-full value-taken target
     l1-cause-is = go (outcome (eqb (call .option) option-I))
       where
         go : Outcome (eqb (call .option) option-I) → first-cause (rows-last (request capacity L1 call format buffer) n) ≡ l1-refused
@@ -81,7 +81,7 @@ module _ (capacity : ℕ) (call : Call) (format buffer : List ℕ) (n : Nucleus)
         go (fails s) = rw (s, there, rw s at valid) (simp or-false)
 
     l4-cause-is : first-cause (rows-last (request capacity L4 call format buffer) n) ≡ l4-cause call f p x (n .queue) capacity format buffer
-    unfolding l4-cause sought version-there file-unknown isn-invalid format-refused field-twice record-length-refused value-refused none-found held-elsewhere presence-refused not-held release-refused file-full limit-reached queue-full value-taken target
+    unfolding l4-cause sought version-there file-unknown isn-invalid format-refused field-twice record-length-refused value-refused none-found held-elsewhere waits presence-refused not-held release-refused file-full limit-reached queue-full value-taken target
     l4-cause-is = go (outcome (eqb (call .option) option-I)) (lowest f p (call .isn)) refl
       where
         go : Outcome (eqb (call .option) option-I) → (o : Occupied) → lowest f p (call .isn) ≡ o

@@ -100,7 +100,7 @@ module _ (call : Call) (x : Share) (queue images : List ℕ) (width : ℕ) where
   et-done buffer =
       done-unless (et-cause buffer) x
       (done (good 0 (gone x queue images width (All (call .user))) (next-sequence x))
-      (share (ended (counted (next-sequence x) (x .user))) (data-brought x buffer) (x .«last_assigned») (left-count x queue images width (All (call .user)))))
+      (share (ended (counted (next-sequence x) (x .user))) (data-brought x buffer) (x .«last_assigned») (left-count x queue images width (All (call .user))) (x .waits)))
 
   abbrev pub et-queue : List ℕ → List ℕ
   et-queue buffer = kept-by (et-cause buffer) queue (left-queue x queue images width (All (call .user)))
@@ -112,7 +112,7 @@ module _ (call : Call) (x : Share) (queue images : List ℕ) (width : ℕ) where
   abbrev pub bt-done : Done
   bt-done =
       done (good 0 (gone x queue images width (All (call .user))) 0)
-      (share (ended (x .user)) (x .«et_data») (x .«last_assigned») (left-count x queue images width (All (call .user))))
+      (share (ended (x .user)) (x .«et_data») (x .«last_assigned») (left-count x queue images width (All (call .user))) (x .waits))
 
 -- ---- RE, OP, CL, PE
 abbrev pub re-done : Share → List ℕ → Done

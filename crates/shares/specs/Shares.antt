@@ -1,5 +1,6 @@
 -- The share of a state that a command is handed, and how it goes back.
 use Prim.Native.Nat.{ℕ, _-_}
+use mathlib.Core.Bool.{Bool}
 use mathlib.Core.List.{List}
 use mathlib.Core.Option.{Option, none, some}
 use lib.ListN.{set}
@@ -9,6 +10,7 @@ use Rattle.records.specs.declared.Found.the-variants.{At, Nowhere}
 use Rattle.nucleus.specs.Responses.{refused}
 use Rattle.nucleus.specs.Nucleus.{user-at, data-at}
 use Rattle.nucleus.specs.Target.{assigned-in}
+use Rattle.nucleus.specs.Waiters.{in-line}
 use Rattle.nucleus.specs.declared.Answer.{Answer}
 use Rattle.nucleus.specs.declared.Call.{Call}
 use Rattle.nucleus.specs.declared.Response.{Response}
@@ -21,12 +23,13 @@ use Rattle.shares.specs.declared.Verdict.{Verdict}
 use Rattle.shares.specs.declared.Verdict.the-variants.{Passed, Refused}
 
 -- ---- shares
-abbrev pub share : User → EtData → ℕ → ℕ → Share
-share user held assigned count = record { user = user; «et_data» = held; «last_assigned» = assigned; count = count }
+abbrev pub share : User → EtData → ℕ → ℕ → Bool → Share
+share user held assigned count waits = record { user = user; «et_data» = held; «last_assigned» = assigned; count = count; waits = waits }
 
 abbrev pub share-of : Call → State → Share
 share-of call s =
     share (user-at s (call .user)) (data-at s (call .user)) (assigned-in (s .«last_assigned») (place (s .definition) (call .file))) (s .count)
+    (in-line (s .«wait_queue») (call .user))
 
 abbrev pub assigned-with : List ℕ → Found → ℕ → List ℕ
 assigned-with isns (At i) isn = set isns i isn
@@ -41,18 +44,19 @@ with-share call x s = record {
   «et_data» = set (s .«et_data») (call .user - 1) (x .«et_data»);
   «last_assigned» = assigned-with (s .«last_assigned») (place (s .definition) (call .file)) (x .«last_assigned»);
   count = x .count;
+  «wait_queue» = s .«wait_queue»;
 }
 
 -- shares that differ in one part
 abbrev pub share-with-user : User → Share → Share
-share-with-user user x = share user (x .«et_data») (x .«last_assigned») (x .count)
+share-with-user user x = share user (x .«et_data») (x .«last_assigned») (x .count) (x .waits)
 
 -- the ISN that N1 gave
 abbrev pub share-with-assigned : ℕ → Share → Share
-share-with-assigned isn x = share (x .user) (x .«et_data») isn (x .count)
+share-with-assigned isn x = share (x .user) (x .«et_data») isn (x .count) (x .waits)
 
 abbrev pub share-with-count : ℕ → Share → Share
-share-with-count count x = share (x .user) (x .«et_data») (x .«last_assigned») count
+share-with-count count x = share (x .user) (x .«et_data») (x .«last_assigned») count (x .waits)
 
 -- ---- what a command gives back
 abbrev pub done : Answer → Share → Done

@@ -16,6 +16,8 @@ pub struct Share {
     pub last_assigned: u16,
     // The entries in use in the hold queue.
     pub count: usize,
+    // The caller is in the line, which he is by this very call. No command changes it.
+    pub waits: bool,
 }
 
 // What a command answers, and its share afterwards.

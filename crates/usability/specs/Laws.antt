@@ -1,8 +1,8 @@
 -- What the rows of 11 and 12 come to, test by test; and what a nucleus that passes them has.
 -- Assumes nothing.
 use Prim.Native.Nat.{ℕ}
-use mathlib.Core.Path.{_≡_}
-use mathlib.Core.Bool.{Bool, true, false, not, _&&_}
+use mathlib.Core.Path.{_≡_, sym, _∙_}
+use mathlib.Core.Bool.{Bool, true, false, not, _&&_, and-assoc}
 use mathlib.Core.List.{List, [], _∷_}
 use mathlib.Core.Option.{none}
 use lib.Dec.{leb}
@@ -17,6 +17,7 @@ use Rattle.nucleus.specs.Nucleus.{Nucleus, entries-of}
 use Rattle.nucleus.specs.WellMade.{too-short, well-made, entry-made, user-made, assigned-made, data-made}
 use Rattle.nucleus.specs.Rows.{Row, row, first-cause, rows-usable}
 use Rattle.nucleus.specs.declared.Response.the-variants.{BufferTooShort, StateInvalid}
+use Rattle.waiters_made.specs.Waiting.{waiters-fit, waiters-judged}
 use Rattle.shares.specs.Shares.{verdict}
 use Rattle.shares.specs.Laws.{row-passed}
 use Rattle.shares.specs.declared.Verdict.{Verdict}
@@ -27,6 +28,9 @@ fails-left a b e = rw e
 
 fails-right : (a b : Bool) → b ≡ false → (a && b) ≡ false
 fails-right a b e = rw e (and-false a)
+
+fails-last : (a b c : Bool) → (b && c) ≡ false → (a && b && c) ≡ false
+fails-last a b c e = and-assoc a b c ∙ fails-right a (b && c) e
 
 module _ (capacity : ℕ) (n : Nucleus) where
   abbrev d : Definition
@@ -81,12 +85,16 @@ module _ (capacity : ℕ) (n : Nucleus) where
   unfolding well-made
   data-badly e = search (fails-left, fails-right)
 
+  pub line-badly : waiters-fit (n .state .users) (n .state .«wait_queue») (entries-of n) ≡ false → well-made capacity n ≡ false
+  unfolding well-made
+  line-badly e = let f = sym (waiters-judged n) ∙ e in search (fails-last)
+
   -- and all together make it well made
   pub all-made : valid d ≡ true → leb (n .state .count) capacity ≡ true → repeated (entries-of n) ≡ false → all (entry-made (n .state)) (entries-of n) ≡ true
       → all (user-made (n .state .clock)) (n .state .users) ≡ true → assigned-made (n .state .«last_assigned») (files-of d) ≡ true → all data-made (n .state .«et_data») ≡ true
-      → well-made capacity n ≡ true
+      → waiters-fit (n .state .users) (n .state .«wait_queue») (entries-of n) ≡ true → well-made capacity n ≡ true
   unfolding well-made
-  all-made v c r e u a m = rw (v, c, r, e, u, a, m)
+  all-made v c r e u a m w = rw (v, c, r, e, u, a, m) (sym (waiters-judged n) ∙ w)
 
 -- ---- what a nucleus that is usable has
 module _ (capacity : ℕ) (n : Nucleus) (usable : first-cause (rows-usable capacity n) ≡ none) where

@@ -75,5 +75,9 @@ pub fn usable(state: State, capacity: usize, store: &[u8], queue: &[u64], images
     if !well_made::data_made(et_data) {
         return Verdict::Refused(Response::StateInvalid);
     }
+    let line = state.wait_queue;
+    if !waiters_made::waiters_made(users, line, queue, count) {
+        return Verdict::Refused(Response::StateInvalid);
+    }
     Verdict::Passed
 }

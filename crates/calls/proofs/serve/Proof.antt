@@ -14,7 +14,7 @@ use Rattle.calls.proofs.serve.Statement.{statement}
 use Rattle.calls.proofs.serve.Tie as tie
 
 abbrev entry : tie.After-assigned-with → tie.Start
-entry k = k .before .before .before .before .before .before .before .before .before .before .before .before .before .before .before .before .before .before .before .before .before .before .before .before .before .before .before .before .before
+entry k = k .before .before .before .before .before .before .before .before .before .before .before .before .before .before .before .before .before .before .before .before .before .before .before .before .before .before .before .before .before .before .before
 
 -- the caller's place is one of the users'
 inside : (k : tie.After-assigned-with) → entry k .args .call .user - 1 < 32
@@ -43,6 +43,9 @@ element-copy-out-et-data c = search needs
 
 assigned-in-requires : tie.Need-assigned-in-requires
 assigned-in-requires c κs = search needs
+
+in-line-requires : tie.Need-in-line-requires
+in-line-requires c κs = search needs
 
 perform-requires : tie.Need-perform-requires
 perform-requires c κs = search needs
@@ -79,12 +82,12 @@ returns c =
     let k = c .before in
     let a = entry k .args in
     let p = k .before .before .before .before .before .before .before .before .before .before .before .before in
-    let found = p .before .before .before .before .before .before .before .before .before .place .ensures in
+    let found = p .before .before .before .before .before .before .before .before .before .before .before .place .ensures in
     let known = state-known (a .t2) _ (entry k .good .1 .0) in
-    served (a .capacity) (a .call) (a .format .now) (a .buffer .now) (a .t2) (a .store .now) (a .queue .now) (a .images .now) (a .command) (entry k .pre .1 .1 .1) (known .definition) (entry k .pre .1 .0) _ _ _
+    served (a .capacity) (a .call) (a .format .now) (a .buffer .now) (a .t2) (a .store .now) (a .queue .now) (a .images .now) (a .command) (entry k .pre .1 .1 .1) (known .definition) (entry k .pre .1 .0) _ _ _ _
     (read-within (a .t2 .users) (a .call .user - 1) _ fresh-user (omega (arith, inside k, known .users)))
     (read-within (a .t2 .«et_data») (a .call .user - 1) _ beyond-data (omega (arith, inside k, known .held)))
-    (p .before .before .before .before .before .assigned-in .ensures ∙ ap (assigned-in (a .t2 .«last_assigned»)) found) _ _ _ _ _ (p .perform .ensures) _
+    (p .before .before .before .before .before .before .assigned-in .ensures ∙ ap (assigned-in (a .t2 .«last_assigned»)) found) (p .before .before .before .before .before .in-line .ensures) _ _ _ _ _ (p .perform .ensures) _
     (k .assigned-with .ensures ∙ ap (λ at. assigned-with (a .t2 .«last_assigned») at (p .perform .result .share .«last_assigned»)) found)
 
 pub serve-spec : {M : Type 1} → statement M
@@ -99,6 +102,7 @@ serve-spec =
     mul-et-data
     element-copy-out-et-data
     assigned-in-requires
+    in-line-requires
     perform-requires
     assigned-with-requires
     mul-left-user

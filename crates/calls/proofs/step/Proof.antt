@@ -36,19 +36,19 @@ given-back : (state : State) (store queue images buffer : List ℕ) (cause : Res
 given-back state store queue images buffer cause o whole e same = ap (λ (o : Outcome). result (o .answer) (nucleus (o .state) store queue images) buffer) e ∙ same
 
 abbrev entry : tie.After-admit → tie.Start
-entry k = k .before .before .before .before .before .before .before .before .before .before .before .before .before .before .before .before .before .before .before .before .before
+entry k = k .before .before .before .before .before .before .before .before .before .before .before .before .before .before .before .before .before .before .before .before .before .before
 
 abbrev begun : tie.After-admit → Nucleus
 begun k = nucleus (entry k .args .state) (entry k .args .store .now) (entry k .args .queue .now) (entry k .args .images .now)
 
 abbrev asked : (k : tie.After-admit) → Command
-asked k = k .before .before .before .before .before .before .before .understood .given .0 .0
+asked k = k .before .before .before .before .before .before .before .before .understood .given .0 .0
 
 understood : (k : tie.After-admit) → understood-as direct-commands (entry k .args .call) ≡ As (asked k)
-understood k = sym (k .before .before .before .before .before .before .before .before .before .understand .ensures) ∙ k .before .before .before .before .before .before .before .understood .given .1
+understood k = sym (k .before .before .before .before .before .before .before .before .before .before .understand .ensures) ∙ k .before .before .before .before .before .before .before .before .understood .given .1
 
 usable : (k : tie.After-admit) → first-cause (rows-usable (entry k .args .capacity) (begun k)) ≡ none
-usable k = verdict-passed (first-cause (rows-usable (entry k .args .capacity) (begun k))) (sym (k .before .before .before .before .before .before .before .before .before .before .before .before .usable .ensures) ∙ k .before .before .before .before .before .before .before .before .before .before .enum-told .given .1)
+usable k = verdict-passed (first-cause (rows-usable (entry k .args .capacity) (begun k))) (sym (k .before .before .before .before .before .before .before .before .before .before .before .before .before .usable .ensures) ∙ k .before .before .before .before .before .before .before .before .before .before .before .enum-told .given .1)
 
 user-in : (k : tie.After-admit) → (1 ≤ entry k .args .call .user) × (entry k .args .call .user ≤ 32)
 user-in k =
@@ -59,11 +59,11 @@ user-in k =
 long : (k : tie.After-admit) → too-short (entry k .args .state .definition) (entry k .args .capacity) (entry k .args .store .now) (entry k .args .queue .now) (entry k .args .images .now) ≡ false
 long k = usable-long (entry k .args .capacity) (begun k) (usable k)
 
-store-in : (k : tie.After-admit) → store-size (entry k .args .state .definition) ≤ length (k .admit .last .1 .1 .1 .1 .1 .1 .0)
-store-in k = omega (arith, store-long _ _ _ _ _ (long k), k .admit .kept .1 .1 .1 .1 .1 .1 .0)
+store-in : (k : tie.After-admit) → store-size (entry k .args .state .definition) ≤ length (k .admit .last .1 .1 .1 .1 .1 .0)
+store-in k = omega (arith, store-long _ _ _ _ _ (long k), k .admit .kept .1 .1 .1 .1 .1 .0)
 
-queue-in : (k : tie.After-admit) → entry k .args .capacity ≤ length (k .admit .last .1 .1 .1 .1 .1 .1 .1 .0)
-queue-in k = omega (arith, queue-long _ _ _ _ _ (long k), k .admit .kept .1 .1 .1 .1 .1 .1 .1 .0)
+queue-in : (k : tie.After-admit) → entry k .args .capacity ≤ length (k .admit .last .1 .1 .1 .1 .1 .1 .0)
+queue-in k = omega (arith, queue-long _ _ _ _ _ (long k), k .admit .kept .1 .1 .1 .1 .1 .1 .0)
 
 usable-requires : tie.Need-usable-requires
 usable-requires c κs = search needs
@@ -144,23 +144,25 @@ same-length-9 c = search needs
 
 returns-3 : tie.Need-returns-3
 returns-3 c =
-    let k = c .before .before .before .before .before .before .before .before .before .before .before in
+    let k = c .before .before .before .before .before .before .before .before .before .before .before .before .before in
     let a = entry k .args in
     let told = c .before .before .verdict .given in
     let e = k .admit .ensures (a .state .«et_data») (a .state .«last_assigned») in
     given-back _ _ _ _ _ (told .0 .0) _ _ (c .refused3 .ensures)
-    (refused-through (a .capacity) (a .call) (a .format .now) (a .buffer .now) (a .state) (a .store .now) (a .queue .now) (a .images .now) _ _ _ _ _ _ (asked k) (usable k) (understood k) (k .admit .result .verdict) (told .0 .0) e (told .1))
+    (refused-through (a .capacity) (a .call) (a .format .now) (a .buffer .now) (a .state) (a .store .now) (a .queue .now) (a .images .now) _ _ _ _ _ (asked k) (usable k) (understood k) (k .admit .result .verdict) (told .0 .0) e (told .1))
 
 enum-told-2 : tie.Need-enum-told-2
 enum-told-2 c = search needs
 
-serve-requires : tie.Need-serve-requires
-serve-requires c κs =
-    let k = c .before .before .before .before .before .before .before .before .before .before .before .before .before in
+serve-lined-requires : tie.Need-serve-lined-requires
+serve-lined-requires c κs =
+    let k = c .before .before .before .before .before .before .before .before .before .before .before .before .before .before .before in
     (user-in k, (usable-valid (entry k .args .capacity) (begun k) (usable k), (store-in k, queue-in k)))
 
 same-length-10 : tie.Need-same-length-10
-same-length-10 c = search needs
+same-length-10 c =
+    let v = c .before .before .before .before .before .before .before .before in
+    v .serve-lined .kept .1 .1 .1 .1 .0 ∙ v .before .before .before .before .before .before .before .before .before .before .before .before .before .before .before .before .admit .kept .1 .1 .1 .1 .1 .0
 
 same-length-11 : tie.Need-same-length-11
 same-length-11 c = search needs
@@ -173,11 +175,11 @@ same-length-13 c = search needs
 
 returns-4 : tie.Need-returns-4
 returns-4 c =
-    let k = c .before .before .before .before .before .before .before .before .before .before .before .before .before .before .before .before .before .before .before .before .before .before in
+    let k = c .before .before .before .before .before .before .before .before .before .before .before .before .before .before .before .before .before .before .before .before .before .before .before .before in
     let a = entry k .args in
     let e = k .admit .ensures (a .state .«et_data») (a .state .«last_assigned») in
-    c .before .before .before .before .before .before .before .before .serve .ensures
-    ∙ performed-through (a .capacity) (a .call) (a .format .now) (a .buffer .now) (a .state) (a .store .now) (a .queue .now) (a .images .now) _ _ _ _ _ _ (asked k) (usable k) (understood k) (k .admit .result .verdict) e (c .before .before .before .before .before .before .before .before .before .before .before .before .before .enum-told2 .given .1)
+    c .before .before .before .before .before .before .before .before .serve-lined .ensures
+    ∙ performed-through (a .capacity) (a .call) (a .format .now) (a .buffer .now) (a .state) (a .store .now) (a .queue .now) (a .images .now) _ _ _ _ _ (asked k) (usable k) (understood k) (k .admit .result .verdict) e (c .before .before .before .before .before .before .before .before .before .before .before .before .before .enum-told2 .given .1)
 
 pub step-spec : {M : Type 1} → statement M
 step-spec =
@@ -207,7 +209,7 @@ step-spec =
     same-length-9
     returns-3
     enum-told-2
-    serve-requires
+    serve-lined-requires
     same-length-10
     same-length-11
     same-length-12

@@ -12,37 +12,25 @@ held-by-caller-requires c κs = search needs
 returns : tie.Need-returns
 returns c = rw (is-new, ← (c .before .held-by-caller .ensures), c .if1 .taken)
 
-cast-if2 : tie.Need-cast-if2
-cast-if2 c = search needs
-
-held-by-requires : tie.Need-held-by-requires
-held-by-requires c κs = search needs
+at-limit-requires : tie.Need-at-limit-requires
+at-limit-requires c κs = search needs
 
 returns-2 : tie.Need-returns-2
 returns-2 c =
-    let o = c .before .before .before in
-    rw (is-new, ← (o .before .held-by-caller .ensures), o .if1 .left, ← (c .before .held-by .ensures), le-leb _ _ (c .if2 .taken))
+    let o = c .before .before in
+    rw (is-new, ← (o .before .held-by-caller .ensures), o .if1 .left, ← (c .before .at-limit .ensures), c .if2 .taken)
 
 returns-3 : tie.Need-returns-3
 returns-3 c =
     let t = c .before .before in
-    let o = t .before .before .before in
-    rw (is-new, ← (o .before .held-by-caller .ensures), o .if1 .left, ← (t .before .held-by .ensures), lt-leb _ _ (t .if2 .left), le-leb _ _ (c .if3 .taken))
+    let o = t .before .before in
+    rw (is-new, ← (o .before .held-by-caller .ensures), o .if1 .left, ← (t .before .at-limit .ensures), t .if2 .left, le-leb _ _ (c .if3 .taken))
 
 returns-4 : tie.Need-returns-4
 returns-4 c =
     let t = c .before .before in
-    let o = t .before .before .before in
-    rw (is-new, ← (o .before .held-by-caller .ensures), o .if1 .left, ← (t .before .held-by .ensures), lt-leb _ _ (t .if2 .left), lt-leb _ _ (c .if3 .left))
+    let o = t .before .before in
+    rw (is-new, ← (o .before .held-by-caller .ensures), o .if1 .left, ← (t .before .at-limit .ensures), t .if2 .left, lt-leb _ _ (c .if3 .left))
 
 pub room-spec : {M : Type 1} → statement M
-room-spec =
-    tie.close
-    (tie.spec
-    held-by-caller-requires
-    returns
-    cast-if2
-    held-by-requires
-    returns-2
-    returns-3
-    returns-4)
+room-spec = tie.close (tie.spec held-by-caller-requires returns at-limit-requires returns-2 returns-3 returns-4)

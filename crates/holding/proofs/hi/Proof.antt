@@ -1,30 +1,48 @@
 -- `hi` meets its contract: its rows in the table's order, and then the hold.
 -- Assumes nothing.
-use mathlib.Core.Path.{_≡_, ap, _∙_}
-use mathlib.Core.Option.{Option}
-use Rattle.nucleus.specs.Target.{other-holds}
-use Rattle.nucleus.specs.Rows.{first-cause}
+use mathlib.Core.Path.{_≡_, sym, _∙_}
+use mathlib.Core.List.{List, [], _∷_}
+use mathlib.Core.Option.{Option, none, some}
+use Rattle.nucleus.specs.Rows.{Row, first-cause}
 use Rattle.nucleus.specs.declared.Response.{Response}
-use Rattle.shares.specs.Causes.{verdict-refused, verdict-passed}
-use Rattle.shares.specs.Chains.{holder-at, rows-room, hi-cause}
+use Rattle.shares.specs.Causes.{causes-refused, causes-passed, verdict-refused, verdict-passed}
+use Rattle.shares.specs.Chains.{row-waits, row-other, rows-room, hi-cause}
 use borrow.Author.Needs.{needs}
 use Rattle.holding.proofs.hi.Statement.{statement}
 use Rattle.holding.proofs.hi.Tie as tie
 
--- whether another holds, as the code finds it
-other : (c : tie.After-other-holds) → let a = c .before .before .before .before .before .args in
-    c .other-holds .result ≡ other-holds (a .call .user) (holder-at (a .call) (a .share) (a .queue .now) (a .call .isn))
-other c = c .other-holds .ensures ∙ ap (other-holds (c .before .before .before .before .before .args .call .user)) (c .before .holder .ensures)
+-- the rows of 20 and 145, and those of room
+abbrev of-others : tie.Start → List Row
+of-others s = row-waits (s .args .call) (s .args .share) (s .args .queue .now) (s .args .call .isn) ∷ row-other (s .args .call) (s .args .share) (s .args .queue .now) (s .args .call .isn) ∷ []
 
--- the cause that refuses room, if any
-abbrev no-room : tie.Start → Option Response
-no-room s = first-cause (rows-room (s .args .call) (s .args .share) (s .args .queue .now) (s .args .most) (s .args .call .isn))
+abbrev of-room : tie.Start → List Row
+of-room s = rows-room (s .args .call) (s .args .share) (s .args .queue .now) (s .args .most) (s .args .call .isn)
 
-holder-requires : tie.Need-holder-requires
-holder-requires c κs = search needs
+module _ (s : tie.Start) where
+  abbrev cause : Option Response
+  cause = hi-cause (s .args .call) (s .args .share) (s .args .queue .now) (s .args .most)
 
-other-holds-requires : tie.Need-other-holds-requires
-other-holds-requires c κs = search needs
+  by-others : (c : Response) → first-cause (of-others s) ≡ some c → cause ≡ some c
+  unfolding hi-cause
+  by-others c e = causes-refused (of-others s) (of-room s) c e
+
+  past-others : first-cause (of-others s) ≡ none → cause ≡ first-cause (of-room s)
+  unfolding hi-cause
+  past-others e = causes-passed (of-others s) (of-room s) e
+
+abbrev start : tie.After-others → tie.Start
+start c = c .before .before .before .before
+
+past : (c : tie.After-enum-told) → cause (start (c .before .before)) ≡ first-cause (of-room (start (c .before .before)))
+past c =
+    let s = start (c .before .before) in
+    past-others s (verdict-passed (first-cause (of-others s)) (sym (c .before .before .others .ensures) ∙ c .enum-told .given .1))
+
+others-requires : tie.Need-others-requires
+others-requires c κs = search needs
+
+enum-known-others : tie.Need-enum-known-others
+enum-known-others c = search needs
 
 refused-requires : tie.Need-refused-requires
 refused-requires c κs = search needs
@@ -33,10 +51,15 @@ same-length : tie.Need-same-length
 same-length c = search needs
 
 returns : tie.Need-returns
-unfolding hi-cause
 returns c =
-    let t = c .before in
-    (rw (← (other (t .before)), t .if1 .taken) (c .refused .ensures), rw (← (other (t .before)), t .if1 .taken))
+    let v = c .before .before in
+    let o = v .before .before in
+    let s = start o in
+    let why = by-others s _ (verdict-refused (first-cause (of-others s)) _ (sym (o .others .ensures) ∙ v .others2 .given .1)) in
+    (rw why (c .refused .ensures), rw why)
+
+enum-told : tie.Need-enum-told
+enum-told c = search needs
 
 room-requires : tie.Need-room-requires
 room-requires c κs = search needs
@@ -51,16 +74,15 @@ same-length-2 : tie.Need-same-length-2
 same-length-2 c = search needs
 
 returns-2 : tie.Need-returns-2
-unfolding hi-cause
 returns-2 c =
     let v = c .before .before in
     let r = v .before .before in
-    let o = r .before .before in
-    let why = verdict-refused (no-room (o .before .before .before .before .before .before)) _ (rw (r .room .ensures) at (v .verdict .given .1)) in
-    (rw (← (other (o .before)), o .if1 .left, why) (c .refused2 .ensures), rw (← (other (o .before)), o .if1 .left, why))
+    let t = r .before .before in
+    let why = past t ∙ verdict-refused (first-cause (of-room (start (t .before .before)))) _ (sym (r .room .ensures) ∙ v .verdict .given .1) in
+    (rw why (c .refused2 .ensures), rw why)
 
-enum-told : tie.Need-enum-told
-enum-told c = search needs
+enum-told-2 : tie.Need-enum-told-2
+enum-told-2 c = search needs
 
 has-record-requires : tie.Need-has-record-requires
 has-record-requires c κs = search needs
@@ -75,31 +97,31 @@ same-length-3 : tie.Need-same-length-3
 same-length-3 c = search needs
 
 returns-3 : tie.Need-returns-3
-unfolding hi-cause
 returns-3 c =
     let h = c .before .before .before in
     let there = h .before .before in
     let v = there .before in
     let r = v .before .before in
-    let o = r .before .before in
-    let none = verdict-passed (no-room (o .before .before .before .before .before .before)) (rw (r .room .ensures) at (v .enum-told .given .1)) in
-    (rw (← (other (o .before)), o .if1 .left, none, ← (h .hold .ensures .0)) (c .good2 .ensures), rw (← (other (o .before)), o .if1 .left, none, ← (there .has-record .ensures)) (h .hold .ensures .1))
+    let t = r .before .before in
+    let why = past t ∙ verdict-passed (first-cause (of-room (start (t .before .before)))) (sym (r .room .ensures) ∙ v .enum-told2 .given .1) in
+    (rw (why, ← (h .hold .ensures .0)) (c .good2 .ensures), rw (why, ← (there .has-record .ensures)) (h .hold .ensures .1))
 
 pub hi-spec : {M : Type 1} → statement M
 hi-spec =
     tie.close
     (tie.spec
-    holder-requires
-    other-holds-requires
+    others-requires
+    enum-known-others
     refused-requires
     same-length
     returns
+    enum-told
     room-requires
     enum-known-verdict
     refused-requires-2
     same-length-2
     returns-2
-    enum-told
+    enum-told-2
     has-record-requires
     hold-requires
     good-requires

@@ -9,7 +9,7 @@ frozen-files-requires c κs = search needs
 
 returns : tie.Need-returns
 unfolding frozen
-returns c = rw (c .before .before .before .frozen-files .ensures)
+returns c = rw (c .before .before .before .before .frozen-files .ensures)
 
 pub frozen-spec : {M : Type 1} → statement M
 frozen-spec = tie.close (tie.spec frozen-files-requires returns)

@@ -9,7 +9,7 @@ thawed-table-requires c κs = search needs
 
 returns : tie.Need-returns
 unfolding thawed
-returns c = rw (c .before .before .before .thawed-table .ensures)
+returns c = rw (c .before .before .before .before .thawed-table .ensures)
 
 pub thawed-spec : {M : Type 1} → statement M
 thawed-spec = tie.close (tie.spec thawed-table-requires returns)

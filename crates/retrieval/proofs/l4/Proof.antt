@@ -17,7 +17,7 @@ use Rattle.nucleus.specs.declared.Call.{Call}
 use Rattle.nucleus.specs.declared.Response.{Response}
 use Rattle.shares.specs.Causes.{verdict-refused, verdict-passed}
 use Rattle.shares.specs.Laws.{row-passed, last-passed}
-use Rattle.shares.specs.Chains.{row-other, row-there, rows-room, sought-isn, l4-cause}
+use Rattle.shares.specs.Chains.{row-waits, row-other, row-there, rows-room, sought-isn, l4-cause}
 use Rattle.shares.specs.Outcomes.{read-buffer}
 use Rattle.shares.specs.declared.Share.{Share}
 use Rattle.retrieval.specs.Retrieval.{read-target}
@@ -28,14 +28,14 @@ use Rattle.retrieval.proofs.l4.Tie as tie
 
 -- what refuses L4, by its target
 module _ (call : Call) (x : Share) (f : File) (part queue : List ℕ) (room : ℕ) where
-  -- 145, 113, 47 and 70
+  -- 20, 145, 113, 47 and 70
   abbrev later : ℕ → List Row
-  later isn = row-other call x queue isn ∷ row-there f part isn ∷ rows-room call x queue room isn
+  later isn = row-waits call x queue isn ∷ row-other call x queue isn ∷ row-there f part isn ∷ rows-room call x queue room isn
 
   later-there : (isn : ℕ) → first-cause (later isn) ≡ none → has-record f part isn ≡ true
   later-there isn e =
       not-false (has-record f part isn)
-      (row-passed (row-there f part isn) (rows-room call x queue room isn) (last-passed (row-other call x queue isn ∷ []) (row-there f part isn ∷ rows-room call x queue room isn) e))
+      (row-passed (row-there f part isn) (rows-room call x queue room isn) (last-passed (row-waits call x queue isn ∷ row-other call x queue isn ∷ []) (row-there f part isn ∷ rows-room call x queue room isn) e))
 
   module _ (format buffer : List ℕ) where
     cause-refused : (cause : Response) → read-target call f part format buffer ≡ Refused cause → l4-cause call f part x queue room format buffer ≡ some cause

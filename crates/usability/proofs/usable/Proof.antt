@@ -15,7 +15,7 @@ use Rattle.nucleus.specs.declared.Response.the-variants.{StateInvalid}
 use Rattle.shares.specs.Shares.{verdict}
 use Rattle.shares.specs.declared.Verdict.the-variants.{Refused}
 use Rattle.entry_tables.specs.Laws.{entries-judged}
-use Rattle.usability.specs.Laws.{table-refused, sizes-refused, state-refused, state-passed, too-many, two-alike, entries-badly, users-badly, assigned-badly, data-badly, all-made}
+use Rattle.usability.specs.Laws.{table-refused, sizes-refused, state-refused, state-passed, too-many, two-alike, entries-badly, users-badly, assigned-badly, data-badly, line-badly, all-made}
 use Rattle.usability.proofs.Known.{state-known}
 use Rattle.usability.proofs.usable.Statement.{statement}
 use Rattle.usability.proofs.usable.Tie as tie
@@ -114,19 +114,29 @@ returns-8 c =
     let e = judged (c .before .before .before .before .before .before .before .before .before) in
     badly e (data-badly _ (lent (start e)) (sym (c .before .data-made .ensures) ∙ not-true _ (c .if8 .taken)))
 
+waiters-made-requires : tie.Need-waiters-made-requires
+waiters-made-requires c κs = search needs
+
 returns-9 : tie.Need-returns-9
 returns-9 c =
-    let a = c .before .before .before in
+    let e = judged (c .before .before .before .before .before .before .before .before .before .before .before .before) in
+    badly e (line-badly _ (lent (start e)) (sym (c .before .waiters-made .ensures) ∙ not-true _ (c .if9 .taken)))
+
+returns-10 : tie.Need-returns-10
+returns-10 c =
+    let h = c .before .before .before in
+    let a = h .before .before .before in
     let u = a .before .before .before in
     let p = u .before .before in
     let e = judged (p .before) in
     let made = sym (entries-are (p .before)) ∙ not-false _ (p .if5 .left) in
     let users = sym (u .before .users-made .ensures) ∙ not-false _ (u .if6 .left) in
     let assigned = sym (a .before .assigned-made .ensures) ∙ not-false _ (a .if7 .left) in
-    let held = sym (c .before .data-made .ensures) ∙ not-false _ (c .if8 .left) in
+    let held = sym (h .before .data-made .ensures) ∙ not-false _ (h .if8 .left) in
+    let line = sym (c .before .waiters-made .ensures) ∙ not-false _ (c .if9 .left) in
     let q = p .before .before .before in
     state-passed _ (lent (start e)) (table-valid (e .before .before)) (sym (e .before .too-short .ensures) ∙ e .if2 .left)
-    (all-made _ (lent (start e)) (table-valid (e .before .before)) (few (q .before .before)) (single q) made users assigned held)
+    (all-made _ (lent (start e)) (table-valid (e .before .before)) (few (q .before .before)) (single q) made users assigned held line)
 
 pub usable-spec : {M : Type 1} → statement M
 usable-spec =
@@ -147,4 +157,6 @@ usable-spec =
     returns-7
     data-made-requires
     returns-8
-    returns-9)
+    waiters-made-requires
+    returns-9
+    returns-10)
