@@ -60,6 +60,7 @@ enum {
     TOWUNGBE_TOO_SHORT = 11,        /* a lent buffer is too short, or the capacity is not 1 to 256 */
     TOWUNGBE_NOT_WELL_MADE = 12,    /* the kept state is not well made: no set-up and no call leaves such a state */
     TOWUNGBE_FILE_UNDEFINED = 17,   /* the file is not defined */
+    TOWUNGBE_WAITING = 20,          /* another user holds the ISN, and the user waits for it in line: see 'Waiting' below */
     TOWUNGBE_COMMAND_UNKNOWN = 22,  /* the command is unknown, or the option is none of this command's */
     TOWUNGBE_ACCESS_ONLY = 29,      /* the user is access-only: he may call OP, CL, L1 and RE only */
     TOWUNGBE_FORMAT_INVALID = 41,   /* the format buffer is neither NAME,NAME. nor . alone, or names a field that the file does not have */
@@ -72,7 +73,7 @@ enum {
     TOWUNGBE_NO_FREE_ISN = 75,      /* N1 finds no ISN without a record and without a holder */
     TOWUNGBE_ISN_INVALID = 113,     /* the ISN is 0 or above the highest, or has no record (L1 with C: ended transactions left none; N2: has one already) */
     TOWUNGBE_NOT_HELD = 144,        /* the user does not hold the ISN */
-    TOWUNGBE_HELD_BY_ANOTHER = 145, /* another user holds the ISN */
+    TOWUNGBE_HELD_BY_ANOTHER = 145, /* another user holds the ISN (HI or L4 with W: and the user may hold no more) */
     TOWUNGBE_CHANGED = 146,         /* RI of a record that the user has changed: ET or BT ends the transaction */
     TOWUNGBE_VALUE_TAKEN = 198,     /* a unique value is taken, by a record or by what another user may still turn back to */
     TOWUNGBE_TRANSACTION_READY = 211, /* PE has set the user's transaction ready: ET or BT must end it first */
@@ -133,6 +134,37 @@ typedef struct {
 } towungbe_et_data;
 
 /*
+ * Waiting. HI and L4 with option 'W', where they would get 145, put the user into the record's line and get 20. Then:
+ *
+ *   - The same call again (command, option, file and ISN; the rest may differ) keeps his place. It gets 20 while he waits,
+ *     and 0 when he has the hold. How often he asks does not matter.
+ *   - Any other call of his leaves the line, whatever it gets; but for 11, 12, 22 and 72.
+ *   - When the holder lets go (by RI, ET or BT, or because he is backed out), the first in line gets the hold in that same
+ *     call, and a transaction, where he has none open. From then on his time limit runs, though nobody has told him: he must
+ *     ask before it ends. If he does not, he is backed out, and the next in line gets the hold.
+ *   - Nobody passes him: with k users before him he has had the hold when the record was let go k + 1 times, unless he has
+ *     left the line or was backed out.
+ *
+ * A user waits for one record at a time. Users may wait for each other in a ring; it ends when one of them makes another
+ * call, or is backed out.
+ *
+ * All lines are kept as one, in the order of joining; the line of a record is those who wait for it. The first `waiting`
+ * places are in use, and those behind them may have anything. towungbe_waiter_at says who is at a place.
+ */
+typedef struct {
+    uint64_t places[TOWUNGBE_USERS]; /* user, file * 256, ISN * 65536, and 4294967296 for L4; bits above are not looked at */
+    size_t waiting;                  /* how many wait, 0 to 32 */
+} towungbe_wait_queue;
+
+/* Who waits for which ISN, which another user holds. */
+typedef struct {
+    uint8_t user;  /* 1 to 32 */
+    uint8_t file;  /* the file's number */
+    uint16_t isn;
+    bool reads;    /* by L4; otherwise by HI */
+} towungbe_waiter;
+
+/*
  * What is kept between calls, beside the buffers. Read it as you like; towungbe_set_up and towungbe_call write it. A change
  * of your own is answered 12 where it is not well made, and otherwise believed.
  */
@@ -144,12 +176,25 @@ typedef struct {
     towungbe_et_data et_data[TOWUNGBE_USERS];  /* user 1 first */
     uint16_t last_assigned[TOWUNGBE_FILES];    /* the ISN that N1 last gave, by the file's place in the table; 0 at first */
     size_t entries;                            /* how many entries of the hold queue are in use */
+    towungbe_wait_queue wait_queue;            /* who waits */
 } towungbe_state;
+
+/* Who waits at place i, counted from 0, the longest first. i must be less than state->wait_queue.waiting. */
+static inline towungbe_waiter towungbe_waiter_at(const towungbe_state *state, size_t i)
+{
+    uint64_t place = state->wait_queue.places[i];
+    towungbe_waiter waiter;
+    waiter.user = (uint8_t)place;
+    waiter.file = (uint8_t)(place >> 8);
+    waiter.isn = (uint16_t)(place >> 16);
+    waiter.reads = (place >> 32 & 1) != 0;
+    return waiter;
+}
 
 /* A call: you fill in the first part; the call fills in the second, whatever its response, and leaves the first. */
 typedef struct {
     uint8_t command[2]; /* "HI", "RI", "L1", "L4", "A1", "E1", "N1", "N2", "ET", "BT", "RE", "OP", "CL" or "PE"; no zero byte after */
-    uint8_t option;     /* ' ', or 'I' (L1, L4), 'C' (L1), 'H' (A1, E1), 'A' (OP); 0 is no option */
+    uint8_t option;     /* ' ', or 'I' (L1, L4), 'C' (L1), 'W' (HI, L4), 'H' (A1, E1), 'A' (OP); 0 is no option */
     uint8_t user;       /* 1 to 32 */
     uint8_t file;       /* the file's number */
     uint16_t isn;       /* the record's number in its file; for OP the hold limit, 0 for 64 */
@@ -177,9 +222,9 @@ size_t towungbe_image_size(const uint8_t *table, size_t table_length, size_t cap
 /*
  * Makes a fresh nucleus. Gives 0, 10 (table) or 11 (buffers or capacity).
  *
- * After 0 every file is empty, no user has a session and nothing is held. In the store the first byte of each ISN is 0 and
- * every other byte is as it was; queue and images are only measured. After 10 or 11 the buffers are as they were, and
- * nothing is set up: calls on the state get 12.
+ * After 0 every file is empty, no user has a session, nothing is held and nobody waits. In the store the first byte of each
+ * ISN is 0 and every other byte is as it was; queue and images are only measured. After 10 or 11 the buffers are as they
+ * were, and nothing is set up: calls on the state get 12.
  *
  *   state     where to keep the nucleus; it need not be initialised
  *   capacity  how many entries the hold queue may have, 1 to 256

@@ -78,13 +78,17 @@ fn well_made(state: &State, capacity: usize, queue: &[Entry]) -> bool {
         && entries_made(state, &queue[..state.entries])
         && state.users.iter().all(|user| {
             let transaction = user.transaction;
-            !transaction.active || (user.session && transaction.begun <= state.clock)
+            match transaction.active {
+                true => user.session && transaction.begun <= state.clock,
+                false => !transaction.ready,
+            }
         })
         && marks.all(|(file, mark)| *mark <= file.max_isn)
         && state
             .et_data
             .iter()
             .all(|data| usize::from(data.length) <= ET_DATA)
+        && line_made(state, &queue[..state.entries])
 }
 
 /// The highest ISN by file number is noted first, so that each entry is judged by one look.
@@ -99,6 +103,22 @@ fn entries_made(state: &State, entries: &[Entry]) -> bool {
             && (1..=USERS).contains(&usize::from(entry.user))
             && state.users[usize::from(entry.user) - 1].transaction.active
     })
+}
+
+/// Each who waits has a session, is there once, and another holds what he waits for.
+fn line_made(state: &State, entries: &[Entry]) -> bool {
+    let mut seen = 0u64;
+    state.wait_queue.waiting <= USERS
+        && state.wait_queue.waiters().all(|waiter| {
+            let another_holds = |entry: &Entry| {
+                (entry.file, entry.isn) == (waiter.file, waiter.isn) && entry.user != waiter.user
+            };
+            let user = usize::from(waiter.user);
+            let is_user = (1..=USERS).contains(&user);
+            let is_first = is_user && seen >> user & 1 == 0;
+            seen |= u64::from(is_user) << (user % 64);
+            is_first && state.users[user - 1].session && entries.iter().any(another_holds)
+        })
 }
 
 /// A table of bits, which some entries share, says where it is worth looking.

@@ -82,7 +82,7 @@ fn by_reference(nucleus: &Nucleus) -> Runner<'_> {
 type Damage = fn(&mut State, &mut Buffers);
 
 /// What makes a state one that is not well made; the first changes nothing, and a place behind a count means nothing.
-const DAMAGES: [Damage; 16] = [
+const DAMAGES: [Damage; 19] = [
     |_, _| {},
     |state, _| state.count = 17,
     |state, _| state.files[0].number = 17,
@@ -100,6 +100,9 @@ const DAMAGES: [Damage; 16] = [
         }
     },
     |state, _| state.users[0].session = false,
+    |state, _| state.users[31].transaction.ready = true,
+    |state, _| state.wait_queue.waiting = 1,
+    |state, _| state.wait_queue.waiting = 33,
     |state, _| {
         state.et_data[31] = EtData {
             length: 65,

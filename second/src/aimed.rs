@@ -1,5 +1,7 @@
 //! Calls aimed at single rules by what a well made nucleus has: entries to release, values that are taken, records to
-//! change or to read as they were, ET data. Calls that look at nothing meet such rules rarely.
+//! change or to read as they were, ET data, a line to wait in. Calls that look at nothing meet such rules rarely.
+
+mod waiting;
 
 use crate::definition::File;
 use crate::fields;
@@ -15,15 +17,15 @@ const USERS: std::ops::RangeInclusive<u8> = 1..=4;
 type Aim = fn(&mut Random, &Machine) -> Option<ListCall>;
 
 /// Each aim as often as it is tried; some find little to aim at.
-const AIMS: [(usize, Aim); 18] = [
+const AIMS: [(usize, Aim); 20] = [
     (12, hold_more),
-    (4, hold_past_limit),
+    (8, hold_past_limit),
     (16, release_one),
     (4, release_changed),
     (8, release_all),
     (10, add_record),
     (6, end_with_changes),
-    (12, change_record),
+    (16, change_record),
     (10, take_from_record),
     (16, leave_doubled),
     (1, name_twice_beside_unknown),
@@ -32,18 +34,37 @@ const AIMS: [(usize, Aim); 18] = [
     (3, read_et_data),
     (10, end_at_last_sequence),
     (6, set_ready),
-    (8, end_ready),
+    (11, end_ready),
     (10, read_committed),
+    (12, waiting::wait),
+    (3, waiting::wait_at_limit),
 ];
 
 /// What there is rarely something for, so that it is looked for first, each once in so many times.
-const RARE: [(u64, Aim); 6] = [
+const RARE: [(u64, Aim); 12] = [
     (2, take_from_image),
     (3, take_unstored),
     (3, call_ready_and_barred),
     (4, read_behind_back_out),
     (6, read_by_access_only),
     (6, read_image),
+    (10, read_added_and_emptied),
+    (10, waiting::wait_again),
+    (8, waiting::let_go),
+    (14, waiting::wait_no_more),
+    (10, waiting::outlast_holder),
+    (10, waiting::close_ring),
+];
+
+/// What there is to aim at in a line.
+const LINE: [(usize, Aim); 7] = [
+    (3, waiting::wait),
+    (4, waiting::wait_at_limit),
+    (5, waiting::close_ring),
+    (3, waiting::wait_again),
+    (4, waiting::wait_no_more),
+    (6, waiting::let_go),
+    (3, waiting::outlast_holder),
 ];
 
 /// A call aimed at one of the rules; none where the nucleus had nothing for a few of them.
@@ -55,7 +76,16 @@ pub fn call(random: &mut Random, machine: &Machine) -> Option<ListCall> {
             }
         }
     }
-    let aims: Vec<Aim> = AIMS
+    call_by(random, machine, &AIMS)
+}
+
+/// The same at the line.
+pub fn line_call(random: &mut Random, machine: &Machine) -> Option<ListCall> {
+    call_by(random, machine, &LINE)
+}
+
+fn call_by(random: &mut Random, machine: &Machine, aims: &[(usize, Aim)]) -> Option<ListCall> {
+    let aims: Vec<Aim> = aims
         .iter()
         .flat_map(|(times, aim)| vec![*aim; *times])
         .collect();
@@ -121,14 +151,16 @@ fn is_able(machine: &Machine, number: u8) -> bool {
 
 /// Whether neither 47 nor 70 waits for a new entry of the user.
 fn has_room(machine: &Machine, number: u8) -> bool {
+    machine.entries().len() < machine.capacity as usize && is_below_limit(machine, number)
+}
+
+fn is_below_limit(machine: &Machine, number: u8) -> bool {
     let user = user(machine, number);
     let limit = match user.session {
         true => user.hold_limit,
         false => User::DEFAULT_HOLD_LIMIT,
     };
-    let entries = machine.entries();
-    entries.len() < machine.capacity as usize
-        && hold::count_of(entries, number) < usize::from(limit)
+    hold::count_of(machine.entries(), number) < usize::from(limit)
 }
 
 fn somebody(random: &mut Random, able: impl Fn(u8) -> bool) -> Option<u8> {
@@ -385,13 +417,13 @@ fn take(random: &mut Random, machine: &Machine, all: &[Taken]) -> Option<ListCal
         }
     }
     let is_held = |(_, place): &(&Taken, Place)| holder(machine, *place).is_some();
-    if random.once_in(2) && pairs.iter().any(is_held) {
+    if random.below(3) > 0 && pairs.iter().any(is_held) {
         pairs.retain(is_held);
     }
     let (taken, place) = random.pick_any(&pairs)?;
     let user = changer(random, machine, place)?;
     let option = match holder(machine, place) {
-        Some(_) => random.pick(b" H"),
+        Some(_) => random.pick(b"  H"),
         None => b'H',
     };
     let call = with_option(option, call_at(machine, b"A1", user, place));
@@ -529,10 +561,10 @@ fn call_ready_and_barred(random: &mut Random, machine: &Machine) -> Option<ListC
 fn end_ready(random: &mut Random, machine: &Machine) -> Option<ListCall> {
     let user = somebody(random, |number| user(machine, number).ready)?;
     let command = random.pick(&[
-        b"ET", b"ET", b"ET", b"BT", b"BT", b"OP", b"CL", b"PE", b"PE",
+        b"ET", b"ET", b"ET", b"BT", b"BT", b"OP", b"CL", b"PE", b"PE", b"PE",
     ]);
     let length = match command {
-        b"ET" => random.pick(&[0, 1, 64, 65, 65]),
+        b"ET" => random.pick(&[0, 1, 64, 65, 65, 66]),
         _ => 0,
     };
     Some(ListCall {
@@ -575,6 +607,18 @@ fn read_image(random: &mut Random, machine: &Machine) -> Option<ListCall> {
         false => imaged,
     };
     let place = random.pick_any(&imaged)?;
+    committed_reading(random, machine, place)
+}
+
+/// The same of an ISN that somebody has added and emptied.
+fn read_added_and_emptied(random: &mut Random, machine: &Machine) -> Option<ListCall> {
+    let clock = machine.state.clock;
+    let records = records(machine);
+    let mut added = places_of(machine, |entry| {
+        entry.changed && !entry.existed && !user(machine, entry.user).is_late(clock)
+    });
+    added.retain(|place| !records.contains(place));
+    let place = random.pick_any(&added)?;
     committed_reading(random, machine, place)
 }
 

@@ -1,6 +1,8 @@
 //! Random states that nobody set up, good and bad, with lent buffers of any size; a call for each, aimed or not; and
 //! tables that may break a rule.
 
+mod lines;
+
 use crate::aimed;
 use crate::definition::{self, Definition, Field, File, MAX_FIELDS, MAX_FILES};
 use crate::hold::Entry;
@@ -27,9 +29,26 @@ pub fn aimed(random: &mut Random) -> (Machine, bool, ListCall) {
     let mut machine = well_made_machine(random);
     double_record(random, &mut machine);
     let spoilt = random.once_in(3) && spoil_user(random, &mut machine);
+    with_call(random, machine, spoilt, aimed::call)
+}
+
+/// The same of the line: the call is aimed at it, or the machine is well made but for one who waits.
+pub fn aimed_at_line(random: &mut Random) -> (Machine, bool, ListCall) {
+    let mut machine = well_made_machine(random);
+    let spoilt = random.once_in(3) && lines::spoil(random, &mut machine);
+    with_call(random, machine, spoilt, aimed::line_call)
+}
+
+/// A machine with an aimed call; with any, where it is not well made or there is nothing to aim at.
+fn with_call(
+    random: &mut Random,
+    machine: Machine,
+    spoilt: bool,
+    aim: fn(&mut Random, &Machine) -> Option<ListCall>,
+) -> (Machine, bool, ListCall) {
     let aimed = match spoilt {
         true => None,
-        false => aimed::call(random, &machine),
+        false => aim(random, &machine),
     };
     let list_call = aimed.unwrap_or_else(|| call(random, &machine));
     (machine, !spoilt, list_call)
@@ -54,6 +73,7 @@ fn well_made_machine(random: &mut Random) -> Machine {
             .collect(),
     };
     hold_some(random, &mut machine);
+    lines::wait_some(random, &mut machine);
     machine
 }
 
@@ -239,7 +259,7 @@ fn spoil(random: &mut Random, machine: &mut Machine) {
     let place = random.below(machine.queue.len() as u64 + 1) as usize;
     let user = random.below(32) as usize;
     let definition = &mut machine.state.definition;
-    match random.below(22) {
+    match random.below(24) {
         0 => machine.capacity = random.pick(&[0, 257, u32::MAX]),
         1 => machine.capacity = random.between(1, 8) as u32,
         2 => machine.queue.truncate(place),
@@ -260,6 +280,8 @@ fn spoil(random: &mut Random, machine: &mut Machine) {
         17 => machine.state.clock = random.below(1000) as u32,
         18 | 19 => repeat_entry(random, machine),
         20 => machine.state.users[user].ready = random.once_in(2),
+        21 => machine.state.line.waiting = random.pick(&[0, 1, 2, 32, 33, usize::MAX]),
+        22 => machine.state.line.places[place % 4] = lines::word(random),
         _ => {
             if let Some(entry) = machine.queue.first_mut() {
                 *entry = random_entry(random);
@@ -290,7 +312,7 @@ pub fn call(random: &mut Random, machine: &Machine) -> ListCall {
     };
     let call = Call {
         command: random.pick(&state::codes()),
-        option: random.pick(b"      IHAC"),
+        option: random.pick(b"      IHACWW"),
         user: random.between(1, 6) as u8,
         file: number,
         isn: random.below(6) as u16,

@@ -1,5 +1,7 @@
 //! Single cases that a comparison must have, so that a wrong rule is seen; and which of them a call was.
 
+mod waiting;
+
 use crate::compare;
 use crate::definition::File;
 use crate::fields;
@@ -86,15 +88,15 @@ const PARTS: [&str; 8] = [
 ];
 
 /// The options that are named for some command, and the blank.
-const OPTIONS: [u8; 5] = *b" IHAC";
+const OPTIONS: [u8; 6] = *b" IHACW";
 
 /// The half bytes that are signs.
 const SIGNS: std::ops::RangeInclusive<u8> = 0xA..=0xF;
 
-/// All cases: those of single rules and of parts, each packed sign of a zero and of another number, and each command with
-/// each option.
+/// All cases: those of single rules, of parts and of the line, each packed sign of a zero and of another number, and each
+/// command with each option.
 pub fn all() -> Vec<String> {
-    let mut all = strings(&[&RULES[..], &PARTS].concat());
+    let mut all = strings(&[&RULES[..], &PARTS, &waiting::CASES].concat());
     for sign in SIGNS {
         all.extend([true, false].map(|is_zero| sign_case(is_zero, sign)));
     }
@@ -154,7 +156,7 @@ pub fn of(before: &Machine, after: &Machine, list_call: &ListCall, answer: &Answ
     let known = state::Command::from_code(call.command).is_some();
     let mut cases = match answer.response {
         11 => return Vec::new(),
-        12 => return strings(&[holder_cases(before), unready_case(before)].concat()),
+        12 => return strings(&not_well_made_cases(before)),
         _ if known => vec![option_case(call.command, call.option)],
         _ => Vec::new(),
     };
@@ -176,6 +178,7 @@ pub fn of(before: &Machine, after: &Machine, list_call: &ListCall, answer: &Answ
     cases.extend(strings(&ready_cases(before, after, call, answer)));
     cases.extend(no_fields_case(list_call, answer));
     cases.extend(strings(&committed_cases(before, after, list_call, answer)));
+    cases.extend(strings(&waiting::of(before, after, call, answer)));
     if let (b"A1" | b"N1" | b"N2", 0 | 55) = (&call.command, answer.response) {
         cases.extend(packed_cases(after, list_call, answer));
     }
@@ -342,6 +345,16 @@ fn name_case(after: &Machine, list_call: &ListCall) -> Vec<&'static str> {
         true => vec!["unknown name beside a doubled one"],
         false => Vec::new(),
     }
+}
+
+/// What alone keeps a state from being well made, if one thing does.
+fn not_well_made_cases(before: &Machine) -> Vec<&'static str> {
+    [
+        holder_cases(before),
+        unready_case(before),
+        waiting::of_bad_line(before),
+    ]
+    .concat()
 }
 
 /// What alone keeps a state from being well made: an entry of user 0 that would be good as user 1's, one of a user above

@@ -2,9 +2,11 @@
 
 use crate::fields;
 use crate::journal::{Journal, Records};
+use crate::line::Waiter;
 use crate::machine::Machine;
 use crate::random::{self, List, ListCall};
-use crate::state::{self, Answer, Call, User};
+use crate::state::{self, Answer, Call, Command, User};
+use crate::waiting;
 use std::collections::BTreeMap;
 use std::ops::Range;
 
@@ -16,11 +18,12 @@ pub const FILL: u8 = 0xA5;
 pub type Counts = BTreeMap<String, u64>;
 
 /// The labels that random lists reach: every response but 10, 11 and 12, and 113 by each of its rows.
-pub const REACHED: [&str; 22] = [
+pub const REACHED: [&str; 23] = [
     "0",
     "3",
     "9",
     "17",
+    "20",
     "22",
     "29",
     "41",
@@ -83,7 +86,7 @@ pub fn check_list(list: &List, counts: &mut Counts) -> Result<(), String> {
     let mut journal = Journal::new(&list.table).ok_or("the journal refuses the table")?;
     for (place, list_call) in list.calls.iter().enumerate() {
         let at = |error: String| format!("seed {}, call {}: {error}", list.seed, place + 1);
-        let answer = checked_call(&mut machine, list_call).map_err(at)?;
+        let (before, answer) = checked_call(&mut machine, list_call).map_err(at)?;
         let ListCall {
             call,
             format,
@@ -91,6 +94,7 @@ pub fn check_list(list: &List, counts: &mut Counts) -> Result<(), String> {
         } = list_call;
         journal.feed(call, format, record, answer.response, answer.isn);
         *counts.entry(label(&machine, call, &answer)).or_default() += 1;
+        waiting::check_call(&before, &machine, call, &answer, &journal).map_err(at)?;
         compare(&machine, &journal).map_err(at)?;
     }
     let at_end = |error: String| format!("seed {}: {error}", list.seed);
@@ -133,7 +137,7 @@ fn readers(machine: &Machine) -> Vec<u8> {
 }
 
 /// What `C` readings of a user show at every ISN. The error: one is answered otherwise than by a record or 113, or the part
-/// is another, or something but the reader's session is changed.
+/// is another, or something but the reader's session and his place in the line is changed.
 fn committed_records(machine: &Machine, reader: u8) -> Result<Records, String> {
     let mut records = Records::new();
     let mut reading = machine.clone();
@@ -155,6 +159,7 @@ fn committed_records(machine: &Machine, reader: u8) -> Result<Records, String> {
     }
     let mut expected = machine.clone();
     open_session(&mut expected.state.users[usize::from(reader) - 1]);
+    expected.state.line.leave(reader);
     match reading == expected {
         true => Ok(records),
         false => Err(format!("readings of user {reader} change something")),
@@ -189,13 +194,13 @@ pub fn label(machine: &Machine, call: &Call, answer: &Answer) -> String {
     format!("113 ({row})")
 }
 
-/// Makes the call and checks what holds of every call on a well made state.
-fn checked_call(machine: &mut Machine, list_call: &ListCall) -> Result<Answer, String> {
+/// Makes the call and checks what holds of every call on a well made state. Gives the nucleus before it too.
+fn checked_call(machine: &mut Machine, list_call: &ListCall) -> Result<(Machine, Answer), String> {
     let before = machine.clone();
     let mut record = list_call.record.clone();
     let answer = machine.call(&list_call.call, &list_call.format, &mut record);
     check_call(&before, machine, list_call, &answer, &record)?;
-    Ok(answer)
+    Ok((before, answer))
 }
 
 /// A response of a random list is none of 10, 11, 12; the state stays well made; the answer of a refused call is
@@ -247,7 +252,8 @@ fn check_holds(
         .ok_or(format!("{answer:?} does not fit the hold queue"))
 }
 
-/// 47, 70 and 75 come only where the limit is met.
+/// 20 comes only for one who is in the line then, of a record that another holds; 47, 70 and 75, and 145 for who would wait,
+/// only where the limit is met.
 fn check_limits(after: &Machine, call: &Call, answer: &Answer) -> Result<(), String> {
     let hold_limit = after
         .state
@@ -255,6 +261,12 @@ fn check_limits(after: &Machine, call: &Call, answer: &Answer) -> Result<(), Str
         .get(usize::from(call.user).wrapping_sub(1))
         .map_or(0, |user| usize::from(user.hold_limit));
     let met = match answer.response {
+        20 => waiter_by(call).is_some_and(|waiter| {
+            let holder = holder(after, call.file, call.isn);
+            after.state.line.waiters().any(|placed| placed == waiter)
+                && holder.is_some_and(|holder| holder != call.user)
+        }),
+        145 if waiter_by(call).is_some() => held(after, call.user) >= hold_limit,
         47 => held(after, call.user) >= hold_limit,
         70 => after.state.entries == after.capacity,
         75 => no_isn_is_free(after, call.file),
@@ -361,9 +373,21 @@ fn holder(machine: &Machine, file: u8, isn: u16) -> Option<u8> {
         .map(|entry| entry.user)
 }
 
-/// "As below" is all but the clock, overdue back-outs and the session opened. Where nobody is overdue, that leaves
-/// the clock and the session; in any case it is what an RE of the same user and clock does. 9 by OP or CL does what a BT
-/// does.
+/// Who waits by a call, if it is one that may wait.
+fn waiter_by(call: &Call) -> Option<Waiter> {
+    Waiter::by(Command::from_code(call.command)?, call)
+}
+
+/// Whether a call keeps its user's place in the line.
+fn keeps_place(machine: &Machine, call: &Call) -> bool {
+    let waiter = waiter_by(call);
+    let mut waiters = machine.state.line.waiters();
+    waiters.any(|placed| Some(placed) == waiter)
+}
+
+/// "As below" is all but the clock, overdue back-outs, the session opened, and the line left or joined. Where nobody is
+/// overdue, that leaves the clock, the session and the line; in any case it is what an RE of the same user and clock does, or,
+/// where he keeps his place, somebody else's. 9 by OP or CL does what a BT does.
 fn check_refused(
     before: &Machine,
     after: &Machine,
@@ -376,10 +400,14 @@ fn check_refused(
     let nothing_more = match answer.response {
         22 | 72 => before == after,
         9 if ended_by_9(before, call) => after_instead(before, call, *b"BT") == *after,
-        9 => after_instead(before, call, *b"RE") == *after,
         _ => {
-            after_instead(before, call, *b"RE") == *after
-                && nobody_late_leaves_all(before, after, call)
+            let clocked = match keeps_place(before, call) {
+                true => after_clock(before, call, answer),
+                false => Some(after_instead(before, call, *b"RE")),
+            };
+            let joined = |clocked| after_joining(clocked, call, answer) == *after;
+            clocked.is_none_or(joined)
+                && (answer.response == 9 || nobody_late_leaves_all(before, after, call, answer))
         }
     };
     if !nothing_more {
@@ -412,7 +440,40 @@ fn after_instead(before: &Machine, call: &Call, command: [u8; 2]) -> Machine {
     machine
 }
 
-fn nobody_late_leaves_all(before: &Machine, after: &Machine, call: &Call) -> bool {
+/// What the clock of a call leaves of a user who keeps his place in the line: an RE of somebody whom it does not touch, with
+/// the caller's mark cleared by 9. None where the clock may touch everybody.
+fn after_clock(before: &Machine, call: &Call, answer: &Answer) -> Option<Machine> {
+    let is_idle = |(number, user): &(u8, &User)| {
+        !user.in_transaction && *number != call.user && !before.state.line.has(*number)
+    };
+    let (number, idle) = (1u8..).zip(&before.state.users).find(is_idle)?;
+    let mut machine = before.clone();
+    machine.state.users[usize::from(number) - 1].overdue = false;
+    let re = Call {
+        command: *b"RE",
+        option: b' ',
+        user: number,
+        ..*call
+    };
+    machine.call(&re, &[], &mut [0; 64]);
+    machine.state.users[usize::from(number) - 1] = *idle;
+    machine.state.users[usize::from(call.user) - 1].overdue &= answer.response != 9;
+    Some(machine)
+}
+
+/// The same with the caller at the line's end, where he is answered 20 and is not in it.
+fn after_joining(mut machine: Machine, call: &Call, answer: &Answer) -> Machine {
+    let line = &mut machine.state.line;
+    if let (20, Some(waiter)) = (answer.response, waiter_by(call)) {
+        if line.waiters().all(|placed| placed != waiter) {
+            line.places[line.waiting] = waiter.word();
+            line.waiting += 1;
+        }
+    }
+    machine
+}
+
+fn nobody_late_leaves_all(before: &Machine, after: &Machine, call: &Call, answer: &Answer) -> bool {
     let clock = before.state.clock.max(call.clock);
     if before.state.users.iter().any(|user| user.is_late(clock)) {
         return true;
@@ -420,7 +481,10 @@ fn nobody_late_leaves_all(before: &Machine, after: &Machine, call: &Call) -> boo
     let mut expected = before.clone();
     expected.state.clock = clock;
     open_session(&mut expected.state.users[usize::from(call.user) - 1]);
-    expected == *after
+    if !keeps_place(before, call) {
+        expected.state.line.leave(call.user);
+    }
+    after_joining(expected, call, answer) == *after
 }
 
 fn open_session(user: &mut User) {
@@ -434,7 +498,7 @@ fn open_session(user: &mut User) {
 }
 
 /// "Equal are, in each file, the ISNs with a record and its bytes"; no unique value is in two records of its file;
-/// both have the same users in a transaction.
+/// both have the same users in a transaction, the same holds and the same line.
 fn compare(machine: &Machine, journal: &Journal) -> Result<(), String> {
     let nucleus = machine.records();
     let expected = journal.records();
@@ -450,6 +514,7 @@ fn compare(machine: &Machine, journal: &Journal) -> Result<(), String> {
             journal.in_transaction()
         ));
     }
+    waiting::compare(machine, journal)?;
     check_unique(machine, &nucleus)
 }
 
@@ -480,30 +545,50 @@ fn check_unique(machine: &Machine, records: &Records) -> Result<(), String> {
 fn check_back_outs(machine: &Machine, journal: &Journal) -> Result<(), String> {
     for users in choices(&journal.in_transaction()) {
         for order in orders(&users) {
-            check_back_out(machine, journal, &order)
+            back_out_in_order(&mut machine.clone(), &mut journal.clone(), &order)
                 .map_err(|error| format!("after BT of {order:?}: {error}"))?;
         }
     }
-    Ok(())
+    check_brought_in(machine, journal)
 }
 
-fn check_back_out(machine: &Machine, journal: &Journal, order: &[u8]) -> Result<(), String> {
-    let mut machine = machine.clone();
-    let mut journal = journal.clone();
+fn back_out_in_order(
+    machine: &mut Machine,
+    journal: &mut Journal,
+    order: &[u8],
+) -> Result<(), String> {
     for user in order {
         let bt = ListCall {
             call: bt_of(*user),
             format: Vec::new(),
             record: Vec::new(),
         };
-        let answer = checked_call(&mut machine, &bt)?;
+        let (_, answer) = checked_call(machine, &bt)?;
         if answer.response != 0 {
             return Err(format!("BT of {user} answers {answer:?}"));
         }
         journal.back_out(*user);
-        compare(&machine, &journal)?;
+        compare(machine, journal)?;
     }
     Ok(())
+}
+
+/// BTs hand over, and so bring those who wait into a transaction. BTs of these too change no record, and in the end nothing
+/// is held and nobody waits.
+fn check_brought_in(machine: &Machine, journal: &Journal) -> Result<(), String> {
+    let (mut machine, mut journal) = (machine.clone(), journal.clone());
+    let users = machine.in_transaction();
+    back_out_in_order(&mut machine, &mut journal, &users)?;
+    let records = machine.records();
+    while let [brought_in, ..] = machine.in_transaction()[..] {
+        back_out_in_order(&mut machine, &mut journal, &[brought_in])
+            .map_err(|error| format!("brought in, {error}"))?;
+    }
+    let is_idle = machine.state.entries == 0 && machine.state.line.waiting == 0;
+    match machine.records() == records && is_idle {
+        true => Ok(()),
+        false => Err(format!("BTs of all leave {:?}", machine.entries())),
+    }
 }
 
 /// Every choice of users; they are few.

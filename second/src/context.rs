@@ -48,9 +48,15 @@ impl Context<'_> {
         fields::elements(self.file()?, self.format)
     }
 
+    /// Whether the call's file has a record at an ISN.
     pub fn has_record(&self, isn: u16) -> bool {
-        match self.file_index() {
-            Some(file) => store::has_record(&self.state.definition, self.store, file, isn),
+        self.has_record_in(self.call.file, isn)
+    }
+
+    /// Whether the file with this number has one.
+    pub fn has_record_in(&self, file: u8, isn: u16) -> bool {
+        match self.state.definition.file_index(file) {
+            Some(index) => store::has_record(&self.state.definition, self.store, index, isn),
             None => false,
         }
     }

@@ -37,18 +37,20 @@ pub fn image_range(place: usize, image_length: usize) -> Range<usize> {
     place * image_length..(place + 1) * image_length
 }
 
-/// Removes the entries that `goes` names, in order, each later entry and its whole image moving up; answers how many
-/// went. Entries and images past the new count stay as they are.
+/// Removes the entries that `goes` names, each later entry and its whole image moving up; answers them, in order. Entries
+/// and images past the new count stay as they are.
 pub fn remove_where(
     queue: &mut [Entry],
     images: &mut [u8],
     image_length: usize,
     count: usize,
     goes: impl Fn(&Entry) -> bool,
-) -> usize {
+) -> Vec<Entry> {
+    let mut removed = Vec::new();
     let mut kept = 0;
     for place in 0..count {
         if goes(&queue[place]) {
+            removed.push(queue[place]);
             continue;
         }
         if kept < place {
@@ -57,5 +59,5 @@ pub fn remove_where(
         }
         kept += 1;
     }
-    count - kept
+    removed
 }

@@ -3,6 +3,7 @@
 use crate::context::Context;
 use crate::fields;
 use crate::hold::{self, Entry};
+use crate::line::Waiter;
 use crate::responses;
 use crate::state::{Answer, Call, Command, State, User, MAX_USERS};
 use crate::store;
@@ -50,15 +51,33 @@ pub fn call(
         format,
         record,
     };
+    leave_line(&mut context);
     keep_clock(&mut context);
     if answers_9(&mut context) {
         return Answer::refused(9);
     }
     open_session(&mut context);
     match responses::first_row(&context) {
+        Some(responses::WAITING) => join_line(&mut context),
         Some(response) => Answer::refused(response),
         None => perform(&mut context),
     }
+}
+
+/// "Any other call of his past 72's check leaves the line, before the clock's back-outs."
+fn leave_line(context: &mut Context) {
+    let line = &mut context.state.line;
+    if !line.keeps_place(context.command, context.call) {
+        line.leave(context.call.user);
+    }
+}
+
+/// "The call joins that record's line and answers 20."
+fn join_line(context: &mut Context) -> Answer {
+    if let Some(waiter) = Waiter::by(context.command, context.call) {
+        context.state.line.join(waiter);
+    }
+    Answer::refused(responses::WAITING)
 }
 
 /// "The nucleus keeps the greatest it was given and uses that. Then each user, rising, whose transaction began more
@@ -123,25 +142,25 @@ fn hold_isn(context: &mut Context) -> Answer {
     Answer::with_isn(isn)
 }
 
-/// Makes a new entry unless the user holds the ISN already. "A transaction opens at the user's first new hold."
+/// Makes a new entry unless the user holds the ISN already.
 fn hold(context: &mut Context, isn: u16) {
-    if context.held_by_caller(isn) {
-        return;
+    if !context.held_by_caller(isn) {
+        add_entry(context, context.call.user, context.call.file, isn);
     }
+}
+
+/// A new entry at the queue's end, unchanged. "A transaction opens at the user's first new hold."
+fn add_entry(context: &mut Context, user: u8, file: u8, isn: u16) {
     context.queue[context.state.entries as usize] = Entry {
-        user: context.call.user,
-        file: context.call.file,
+        user,
+        file,
         isn,
         changed: false,
-        existed: context.has_record(isn),
+        existed: context.has_record_in(file, isn),
     };
     context.state.entries += 1;
     let clock = context.state.clock;
-    let user = context.user_mut();
-    if !user.in_transaction {
-        user.in_transaction = true;
-        user.begun = clock;
-    }
+    context.state.users[usize::from(user) - 1].start_transaction(clock);
 }
 
 /// "RI drops the user's unchanged entry; ISN 0 drops all of his unchanged ones, in every file, and skips the changed.
@@ -154,9 +173,10 @@ fn release(context: &mut Context) -> Answer {
         let named = isn == 0 || (entry.file == file && entry.isn == isn);
         entry.user == user && !entry.changed && named
     });
+    hand_over(context, &dropped);
     Answer {
         isn,
-        quantity: dropped,
+        quantity: dropped.len(),
         ..Answer::default()
     }
 }
@@ -269,14 +289,16 @@ fn keep_image(context: &mut Context, isn: u16) {
 /// as the user's ET data; an empty one leaves the old data."
 fn end_transaction(context: &mut Context) -> Answer {
     let caller = context.call.user;
-    let quantity = remove_entries(context, |entry| entry.user == caller);
+    let removed = remove_entries(context, |entry| entry.user == caller);
     store_et_data(context);
     let user = context.user_mut();
     user.end_transaction();
     user.sequence = user.sequence.saturating_add(1);
+    let sequence = user.sequence;
+    hand_over(context, &removed);
     Answer {
-        quantity,
-        sequence: user.sequence,
+        quantity: removed.len(),
+        sequence,
         ..Answer::default()
     }
 }
@@ -299,7 +321,7 @@ fn back_out_transaction(context: &mut Context) -> Answer {
 }
 
 /// "A back-out puts every changed entry's image back, or makes its ISN empty where no record was, and removes all the
-/// user's entries." Answers how many went; the transaction ends.
+/// user's entries." The transaction ends; "a back-out takes its user from the line". Answers how many entries went.
 fn back_out(context: &mut Context, user: u8) -> usize {
     for place in 0..context.state.entries as usize {
         let entry = context.queue[place];
@@ -308,7 +330,10 @@ fn back_out(context: &mut Context, user: u8) -> usize {
         }
     }
     context.state.users[usize::from(user) - 1].end_transaction();
-    remove_entries(context, |entry| entry.user == user)
+    let removed = remove_entries(context, |entry| entry.user == user);
+    context.state.line.leave(user);
+    hand_over(context, &removed);
+    removed.len()
 }
 
 fn undo(context: &mut Context, place: usize, entry: &Entry) {
@@ -326,12 +351,24 @@ fn undo(context: &mut Context, place: usize, entry: &Entry) {
     store::put_record(definition, context.store, index, entry.isn, image);
 }
 
-fn remove_entries(context: &mut Context, goes: impl Fn(&Entry) -> bool) -> usize {
+/// Removes entries; answers them, oldest first.
+fn remove_entries(context: &mut Context, goes: impl Fn(&Entry) -> bool) -> Vec<Entry> {
     let image_length = context.state.definition.greatest_record_length();
     let count = context.state.entries as usize;
     let removed = hold::remove_where(context.queue, context.images, image_length, count, goes);
-    context.state.entries = (count - removed) as u32;
+    context.state.entries = (count - removed.len()) as u32;
     removed
+}
+
+/// "When the holder lets go, the first in line gets the hold"; "each back-out, ET or RI hands over after its removals, oldest
+/// entry first". The receiver gets a new entry, and waits no more.
+fn hand_over(context: &mut Context, removed: &[Entry]) {
+    for Entry { file, isn, .. } in removed {
+        if let Some(first) = context.state.line.first_for(*file, *isn) {
+            context.state.line.leave(first.user);
+            add_entry(context, first.user, *file, *isn);
+        }
+    }
 }
 
 /// "Command PE sets his open transaction ready."

@@ -77,14 +77,14 @@ pub struct List {
     pub calls: Vec<ListCall>,
 }
 
-/// How many calls of a list have a command and an option by turn. In 21 lists with seeds in a row each command comes
+/// How many calls of a list have a command and an option by turn. In 25 lists with seeds in a row each command comes
 /// with each option.
 const TURNS: u64 = 4;
 
 /// The options that are named for some command, the blank, and bytes that are no option.
-fn options(random: &mut Random) -> [u8; 6] {
-    let other = random.pick(&[0, b'h', b'X', b'R', b'c']);
-    [b' ', b'I', b'H', b'A', b'C', other]
+fn options(random: &mut Random) -> [u8; 7] {
+    let other = random.pick(&[0, b'h', b'X', b'R', b'c', b'w']);
+    [b' ', b'I', b'H', b'A', b'C', b'W', other]
 }
 
 /// The list of a seed.
@@ -218,6 +218,8 @@ fn list_call(random: &mut Random, machine: &Machine, users: u64, clock: &mut u32
         Some(list_call) => list_call,
         None => any_call(random, &machine.state.definition, users),
     };
+    // A call that is aimed at somebody's time limit has a clock of its own.
+    *clock = list_call.call.clock.max(*clock);
     list_call.call.clock = *clock;
     list_call
 }
@@ -273,12 +275,13 @@ fn command(random: &mut Random) -> [u8; 2] {
 
 fn option(random: &mut Random, command: [u8; 2]) -> u8 {
     if random.once_in(50) {
-        return random.pick(&[0, b'H', b'I', b'A', b'C', b'h', b'X']);
+        return random.pick(&[0, b'H', b'I', b'A', b'C', b'W', b'h', b'X', b'w']);
     }
     match &command {
         b"A1" | b"E1" => random.pick(b"HH "),
         b"L1" => random.pick(b"ICC  "),
-        b"L4" => random.pick(b"I  "),
+        b"L4" => random.pick(b"IWWW  "),
+        b"HI" => random.pick(b"WW "),
         b"OP" => random.pick(b"A  "),
         _ => b' ',
     }
@@ -405,7 +408,7 @@ fn value(random: &mut Random, field: &Field) -> Vec<u8> {
         }
         _ => {
             value[last] = random.pick(&[0x00, 0x10, 0x10, 0x20]) + random.between(0xA, 0xF) as u8;
-            if random.once_in(25) {
+            if random.once_in(16) {
                 value[last] = random.pick(&[0x10, 0x19, 0xAF]);
             }
             if last > 0 && random.once_in(40) {

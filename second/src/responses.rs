@@ -6,13 +6,17 @@ use crate::context::Context;
 use crate::definition::{self, Definition};
 use crate::fields;
 use crate::hold::{self, Entry};
+use crate::line::Waiter;
 use crate::state::{self, Call, Command, State, MAX_ET_DATA, MAX_USERS};
 use crate::store;
 
 type Row = (fn(&Context) -> bool, u16);
 
+/// Who joins a line, or still waits in it: the one row whose call does something.
+pub const WAITING: u16 = 20;
+
 /// The rows after the clock, the overdue pass and the opening of a session.
-const ROWS: [Row; 18] = [
+const ROWS: [Row; 19] = [
     (other_call_while_ready, 211),
     (access_only_user, 29),
     (pe_without_transaction, 212),
@@ -23,6 +27,7 @@ const ROWS: [Row; 18] = [
     (record_buffer_length, 53),
     (value_not_allowed, 55),
     (option_i_finds_none, 3),
+    (waits_in_line, WAITING),
     (held_by_another, 145),
     (record_missing_or_there, 113),
     (not_held_by_user, 144),
@@ -204,6 +209,14 @@ fn option_i_finds_none(context: &Context) -> bool {
     context.call.option == b'I' && context.target_isn().is_none()
 }
 
+/// 20: "where 145 would be given, the call joins that record's line"; "a user at or past [his hold limit] doesn't join".
+/// Whoever is in a line here is in it by this very call.
+fn waits_in_line(context: &Context) -> bool {
+    Waiter::by(context.command, context.call).is_some()
+        && held_by_another(context)
+        && (context.state.line.has(context.call.user) || !is_at_hold_limit(context))
+}
+
 /// 145: "another user holds the ISN (not L1, not RI)". N1's ISN has no holder.
 fn held_by_another(context: &Context) -> bool {
     let looks_at_holds = matches!(
@@ -264,10 +277,15 @@ fn makes_entry(context: &Context) -> bool {
     holds && !context.held_by_caller(isn)
 }
 
-/// 47: "new entry, user at or past his hold limit"; his entries in all files count.
+/// 47: "new entry, user at or past his hold limit".
 fn hold_limit_reached(context: &Context) -> bool {
+    makes_entry(context) && is_at_hold_limit(context)
+}
+
+/// His entries in all files count.
+fn is_at_hold_limit(context: &Context) -> bool {
     let held = hold::count_of(context.entries(), context.call.user);
-    makes_entry(context) && held >= usize::from(context.user().hold_limit)
+    held >= usize::from(context.user().hold_limit)
 }
 
 /// 70: "new entry, queue has H".

@@ -1,7 +1,8 @@
 //! What the nucleus keeps between calls, a call and its answer, and when a state is well made.
 
 use crate::definition::{self, Definition, MAX_FILES};
-use crate::hold::Entry;
+use crate::hold::{self, Entry};
+use crate::line::{Line, Waiter};
 use crate::store;
 
 pub const MAX_USERS: usize = 32;
@@ -61,7 +62,7 @@ impl Command {
             .map(|(command, _)| *command)
     }
 
-    /// Blank is good for every command; `I`, `H`, `A` and `C` where the papers name them.
+    /// Blank is good for every command; `I`, `H`, `A`, `C` and `W` where the papers name them.
     pub fn has_option(self, option: u8) -> bool {
         match option {
             b' ' => true,
@@ -69,6 +70,7 @@ impl Command {
             b'H' => matches!(self, Command::A1 | Command::E1),
             b'A' => self == Command::Op,
             b'C' => self == Command::L1,
+            b'W' => matches!(self, Command::Hi | Command::L4),
             _ => false,
         }
     }
@@ -160,6 +162,14 @@ impl User {
         self.access_only = false;
     }
 
+    /// A transaction opens, unless one is open.
+    pub fn start_transaction(&mut self, clock: u32) {
+        if !self.in_transaction {
+            self.in_transaction = true;
+            self.begun = clock;
+        }
+    }
+
     /// The transaction ends, and that it is ready.
     pub fn end_transaction(&mut self) {
         self.in_transaction = false;
@@ -183,6 +193,8 @@ pub struct State {
     pub last_assigned: [u16; MAX_FILES],
     /// The count of entries in the hold queue.
     pub entries: u32,
+    /// Who waits for a record.
+    pub line: Line,
 }
 
 impl State {
@@ -194,6 +206,7 @@ impl State {
             users: [User::fresh(); MAX_USERS],
             last_assigned: [0; MAX_FILES],
             entries: 0,
+            line: Line::EMPTY,
         }
     }
 }
@@ -218,6 +231,7 @@ pub fn is_well_made(state: &State, capacity: u32, queue: &[Entry]) -> bool {
         && entries_well_made(state, capacity, queue)
         && users_well_made(state)
         && last_assigned_well_made(state)
+        && line_well_made(state, queue)
 }
 
 /// "At most H entries, no file and ISN in two, each within its file and of a user in a transaction."
@@ -231,9 +245,10 @@ fn entries_well_made(state: &State, capacity: u32, queue: &[Entry]) -> bool {
     let all_within = entries
         .iter()
         .all(|entry| within_its_file(state, entry) && of_user_in_transaction(state, entry));
-    let no_double = entries.iter().enumerate().all(|(place, entry)| {
-        crate::hold::position(&entries[..place], entry.file, entry.isn).is_none()
-    });
+    let no_double = entries
+        .iter()
+        .enumerate()
+        .all(|(place, entry)| hold::position(&entries[..place], entry.file, entry.isn).is_none());
     all_within && no_double
 }
 
@@ -266,4 +281,26 @@ fn last_assigned_well_made(state: &State) -> bool {
         .used_files()
         .iter()
         .all(|file| state.last_assigned[usize::from(file.number) - 1] <= file.max_isn)
+}
+
+/// "A waiter has a session and another holds his record"; and a user is in the line once, which has a place for each.
+fn line_well_made(state: &State, queue: &[Entry]) -> bool {
+    let Some(entries) = queue.get(..state.entries as usize) else {
+        return false;
+    };
+    let another_holds = |waiter: &Waiter| {
+        let holder = hold::holder(entries, waiter.file, waiter.isn);
+        holder.is_some_and(|holder| holder != waiter.user)
+    };
+    let is_once = |user: u8| {
+        let places = state.line.waiters().filter(|waiter| waiter.user == user);
+        places.count() == 1
+    };
+    state.line.waiting <= MAX_USERS
+        && state.line.waiters().all(|waiter| {
+            (1..=MAX_USERS).contains(&usize::from(waiter.user))
+                && state.users[usize::from(waiter.user) - 1].session
+                && is_once(waiter.user)
+                && another_holds(&waiter)
+        })
 }

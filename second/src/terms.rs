@@ -2,6 +2,7 @@
 
 use crate::definition::{Definition, Field, File};
 use crate::hold::Entry;
+use crate::line::Line;
 use crate::machine::Machine;
 use crate::random::ListCall;
 use crate::state::{Answer, State, User, MAX_ET_DATA};
@@ -108,16 +109,23 @@ fn marks(state: &State, files: &[File]) -> String {
     list(&marks, u16::to_string)
 }
 
+/// Every place, also those past the number of waiters.
+fn line(line: &Line) -> String {
+    let places = list(&line.places, u64::to_string);
+    format!("(line {} {places})", line.waiting)
+}
+
 pub fn nucleus(machine: &Machine) -> String {
     let state = &machine.state;
     format!(
-        "nucleus ({}) {} {} {} {} {} {}",
+        "nucleus ({}) {} {} {} {} {} {} {}",
         definition(&state.definition),
         state.clock,
         state.entries,
         list(&state.users, user),
         list(&state.users, et_data),
         marks(state, &state.definition.files),
+        line(&state.line),
         lent(&machine.store, &machine.queue, &machine.images)
     )
 }
@@ -139,12 +147,13 @@ pub fn outcome(answers: &[(Answer, Vec<u8>)], machine: &Machine, parts: &[Vec<u8
     let queue = machine.capacity as usize;
     let images = queue.saturating_mul(state.definition.greatest_record_length());
     format!(
-        "outcome {} {} {} {} {} {} {} {} {} {}",
+        "outcome {} {} {} {} {} {} {} {} {} {} {}",
         list(answers, |(answer, record)| answered(answer, record)),
         state.clock,
         list(&state.users.map(seen_user), user),
         list(&state.users, |user| bytes(kept(user))),
         marks(state, state.definition.used_files()),
+        line(&state.line),
         bytes(&machine.store),
         list(&seen_entries(machine), |(seen, image)| format!(
             "with-image ({}) {}",

@@ -6,7 +6,8 @@ use common::{file, two_files, GOOD_CALLS};
 use second::any_state;
 use second::compare;
 use second::definition::Definition;
-use second::hold::Entry;
+use second::hold::{self, Entry};
+use second::line::Waiter;
 use second::machine::Machine;
 use second::nucleus::set_up;
 use second::random::Random;
@@ -254,6 +255,86 @@ fn r12_users() {
     }
 }
 
+/// User 2 holds ISN 2 and waits for user 1's ISN 1; user 3 waits behind him.
+fn waiting_machine() -> Machine {
+    let mut bench = common::bench();
+    bench.run(
+        "HI isn=1 -> 0 1 0 0
+         HI user=2 isn=2 -> 0 2 0 0
+         HI option=W isn=1 -> 20 0 0 0
+         L4 user=3 option=W isn=1 format=AA. length=1 -> 20 0 0 0",
+    );
+    bench.machine
+}
+
+fn word(user: u8, file: u8, isn: u16) -> u64 {
+    let reads = false;
+    let waiter = Waiter {
+        user,
+        file,
+        isn,
+        reads,
+    };
+    waiter.word()
+}
+
+#[test]
+fn r12_line() {
+    type Break = fn(&mut Machine);
+    let breaks: [Break; 15] = [
+        |machine| machine.state.line.waiting = 3,
+        |machine| machine.state.line.waiting = 33,
+        |machine| machine.state.line.waiting = usize::MAX,
+        |machine| machine.state.line.places[0] = 0,
+        |machine| machine.state.line.places[0] = word(0, 1, 1),
+        |machine| machine.state.line.places[0] = word(33, 1, 1),
+        |machine| machine.state.line.places[0] = word(255, 1, 1),
+        // No session; his own record; nobody's; no ISN; no file.
+        |machine| machine.state.line.places[0] = word(4, 1, 1),
+        |machine| machine.state.line.places[0] = word(1, 1, 1),
+        |machine| machine.state.line.places[0] = word(2, 1, 2),
+        |machine| machine.state.line.places[0] = word(2, 1, 3),
+        |machine| machine.state.line.places[0] = word(2, 1, 0),
+        |machine| machine.state.line.places[0] = word(2, 2, 1),
+        // Twice, of one record and of two.
+        |machine| machine.state.line.places[0] = machine.state.line.places[1],
+        |machine| machine.state.line.places[0] = word(3, 1, 2),
+    ];
+    for break_rule in breaks {
+        let mut machine = waiting_machine();
+        goes_on(&machine);
+        break_rule(&mut machine);
+        all_calls_answer(&machine, 12);
+    }
+    let mut machine = waiting_machine();
+    machine.state.users[2].session = false;
+    all_calls_answer(&machine, 12);
+    let mut machine = waiting_machine();
+    machine.state.entries = 0;
+    all_calls_answer(&machine, 12);
+}
+
+/// What is not asked of a waiter.
+#[test]
+fn r12_line_not() {
+    type Change = fn(&mut Machine);
+    let changes: [Change; 8] = [
+        |machine| machine.state.line.waiting = 0,
+        |machine| machine.state.line.waiting = 1,
+        |machine| machine.state.line.places[2..].fill(u64::MAX),
+        |machine| machine.state.line.places[0] |= 0xFFFF_FFFF_0000_0000,
+        |machine| machine.state.line.places[0] = word(1, 1, 2),
+        |machine| machine.state.users[1].overdue = true,
+        |machine| machine.state.users[2].access_only = true,
+        |machine| machine.state.users[2].hold_limit = 0,
+    ];
+    for change in changes {
+        let mut machine = waiting_machine();
+        change(&mut machine);
+        goes_on(&machine);
+    }
+}
+
 #[test]
 fn r12_last_assigned() {
     for (place, greatest) in [(0, 3), (1, 2)] {
@@ -294,15 +375,16 @@ fn r12_not() {
 
 // Random states
 
-/// Random calls on random states and buffers, a third of them aimed: no panic, and what must hold of each call.
+/// Random calls on random states and buffers, half of them aimed: no panic, and what must hold of each call.
 #[test]
 fn random_states() {
     let mut random = Random::new(58);
     let mut refused = [0; 2];
     let mut done = 0;
     for place in 0..150_000 {
-        let (before, good, list_call) = match place % 3 {
+        let (before, good, list_call) = match place % 4 {
             0 => any_state::aimed(&mut random),
+            1 => any_state::aimed_at_line(&mut random),
             _ => {
                 let (before, good) = any_state::machine(&mut random);
                 let list_call = any_state::call(&mut random, &before);
@@ -373,16 +455,25 @@ fn entries_with_images(machine: &Machine, of: impl Fn(u8) -> bool) -> Vec<(Entry
     found
 }
 
-/// Users who neither call nor are late keep their entries and images, in order, and the records they hold; records
-/// that nobody of the others holds change only at the ISN answered.
+/// Users who neither call nor are late keep their entries and images, in order, and the records they hold, and get nothing
+/// but what is handed over to them; records that nobody of the others holds change only at the ISN answered.
 fn check_others(before: &Machine, after: &Machine, call: &Call, answer: &Answer) {
     let clock = before.state.clock.max(call.clock);
     let is_late = |user: u8| before.state.users[usize::from(user) - 1].is_late(clock);
     let bystander = |user: u8| user != call.user && !is_late(user);
-    assert_eq!(
-        entries_with_images(before, bystander),
-        entries_with_images(after, bystander)
-    );
+    let kept = entries_with_images(before, bystander);
+    let found = entries_with_images(after, bystander);
+    let (found, handed_over) = found.split_at(kept.len());
+    assert_eq!(kept, found);
+    for (entry, _) in handed_over {
+        let mut waiters = before.state.line.waiters();
+        assert!(
+            waiters.any(|waiter| waiter.user == entry.user && waiter.is_for(entry.file, entry.isn))
+        );
+        assert!(!after.state.line.has(entry.user) && !entry.changed);
+        let holder = hold::holder(before.entries(), entry.file, entry.isn).expect("held");
+        assert!(!bystander(holder), "{call:?} {answer:?}");
+    }
     let mut may_change: Vec<(u8, u16)> = before.queue[..before.state.entries as usize]
         .iter()
         .filter(|entry| !bystander(entry.user))

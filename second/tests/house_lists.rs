@@ -134,10 +134,10 @@ fn every_response_has_every_response() {
             (number, _) => format!("{name} {number}"),
         });
     }
-    // 211 and 212 come of PE, which has no kind byte.
+    // Document 02's: 20 comes of option W, 211 and 212 of PE, which has no kind byte.
     let reached: BTreeSet<&str> = REACHED
         .into_iter()
-        .filter(|label| !matches!(*label, "211" | "212"))
+        .filter(|label| !matches!(*label, "20" | "211" | "212"))
         .collect();
     assert_eq!(responses, reached);
     for wanted in [

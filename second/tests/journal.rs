@@ -1,4 +1,4 @@
-//! Requirement 3 by random lists, and the journal itself by hand.
+//! Requirement 3 and the line by random lists, and the journal itself by hand.
 
 use second::compare::{self, Counts, REACHED};
 use second::definition;
@@ -179,6 +179,100 @@ mod by_hand {
             let lines = format!("PE -> 0 0\n{ends}\nHI isn=3 -> 0 3\n{late}");
             assert_eq!(after(&lines).1, [], "{ends}");
         }
+    }
+
+    /// The holds, by user, ISN and whether changed, and the line, by user and ISN.
+    type Kept = (Vec<(u8, u16, bool)>, Vec<(u8, u16)>);
+
+    fn kept(script: &str) -> Kept {
+        let journal = fed(script);
+        let holds = journal.holds().iter();
+        let line = journal.line().iter();
+        (
+            holds
+                .map(|hold| (hold.user, hold.isn, hold.changed))
+                .collect(),
+            line.map(|place| (place.user, place.isn)).collect(),
+        )
+    }
+
+    #[test]
+    fn journal_keeps_holds() {
+        let script = "HI isn=1 -> 0 1
+                      N1 format=AA. record=41 -> 0 2
+                      L4 user=2 isn=3 -> 0 3
+                      HI user=1 isn=1 -> 0 1
+                      HI isn=3 -> 145 0";
+        let (holds, line) = kept(script);
+        assert_eq!(holds, [(1, 1, false), (1, 2, true), (2, 3, false)]);
+        assert_eq!(line, []);
+        let after = |line: &str| kept(&format!("{script}\n{line}")).0;
+        assert_eq!(after("RI isn=1 -> 0 1"), [(1, 2, true), (2, 3, false)]);
+        assert_eq!(after("RI isn=0 -> 0 0"), [(1, 2, true), (2, 3, false)]);
+        assert_eq!(after("RI isn=2 -> 146 0").len(), 3);
+        for ends in ["ET -> 0 0", "BT -> 0 0", "OP -> 9 0", "CL -> 9 0"] {
+            assert_eq!(after(ends), [(2, 3, false)], "{ends}");
+        }
+        assert_eq!(after("A1 user=2 isn=3 -> 0 3")[2], (2, 3, true));
+        assert_eq!(after("RE user=3 clock=901 -> 0 0"), []);
+    }
+
+    #[test]
+    fn journal_keeps_the_line() {
+        let script = "HI isn=1 -> 0 1
+                      HI user=2 option=W isn=1 -> 20 0
+                      L4 user=3 option=W isn=1 -> 20 0
+                      HI user=2 option=W isn=1 -> 20 0";
+        let after = |line: &str| kept(&format!("{script}\n{line}")).1;
+        assert_eq!(after("XX user=2 -> 22 0"), [(2, 1), (3, 1)]);
+        assert_eq!(after("L4 option=W user=3 isn=1 -> 41 0"), [(2, 1), (3, 1)]);
+        assert_eq!(after("L4 option=W user=2 isn=1 -> 20 0"), [(3, 1), (2, 1)]);
+        assert_eq!(after("L4 option=W user=2 isn=1 -> 41 0"), [(3, 1)]);
+        assert_eq!(after("HI option=W user=2 isn=2 -> 0 2"), [(3, 1)]);
+        assert_eq!(after("HI user=2 isn=1 -> 145 0"), [(3, 1)]);
+        assert_eq!(after("L1 user=3 isn=1 -> 17 0"), [(2, 1)]);
+        assert_eq!(after("PE user=1 -> 0 0"), [(2, 1), (3, 1)]);
+    }
+
+    /// Who gets a hold is in a transaction from then on, unless he was in one.
+    #[test]
+    fn journal_hands_over() {
+        let script = "HI user=3 isn=3 clock=5 -> 0 3
+                      HI user=1 isn=1 -> 0 1
+                      HI isn=2 -> 0 2
+                      HI user=3 option=W isn=2 -> 20 0
+                      HI user=2 option=W isn=1 -> 20 0
+                      HI user=4 option=W isn=1 -> 20 0";
+        let ends = [
+            "ET user=1 clock=9 -> 0 0",
+            "BT user=1 clock=9 -> 0 0",
+            "OP user=1 clock=9 -> 9 0",
+            "CL user=1 clock=9 -> 9 0",
+            "RI user=1 isn=0 clock=9 -> 0 0",
+        ];
+        for lets_go in ends {
+            let script = format!("{script}\n{lets_go}");
+            let (holds, line) = kept(&script);
+            assert_eq!(holds, [(3, 3, false), (2, 1, false), (3, 2, false)]);
+            assert_eq!(line, [(4, 1)]);
+            let journal = fed(&script);
+            let begun = [2, 3, 4].map(|user| journal.begun(user));
+            assert_eq!(begun, [Some(9), Some(5), None]);
+            assert_eq!((journal.let_gos(1, 1), journal.let_gos(1, 3)), (1, 0));
+        }
+        // The clock: user 1 is late, and then user 3, who has got ISN 2 by then. Nobody is left who waits for ISN 2 or 3.
+        let (holds, line) = kept(&format!("{script}\nRE user=9 clock=906 -> 0 0"));
+        assert_eq!((holds, line), (vec![(2, 1, false)], vec![(4, 1)]));
+    }
+
+    /// "A back-out takes its user from the line."
+    #[test]
+    fn journal_takes_whom_it_backs_out_from_the_line() {
+        let script = "HI user=2 isn=2 -> 0 2
+                      HI user=1 isn=1 clock=10 -> 0 1
+                      HI user=2 option=W isn=1 -> 20 0
+                      RE user=3 clock=901 -> 0 0";
+        assert_eq!(kept(script), (vec![(1, 1, false)], vec![]));
     }
 
     /// A hold starts the transaction, and it keeps that start though RI drops every entry.

@@ -50,10 +50,10 @@ macro_rules! options {
 }
 
 options! {
-    hi "HI", b"";
+    hi "HI", b"W";
     ri "RI", b"";
     l1 "L1", b"IC";
-    l4 "L4", b"I";
+    l4 "L4", b"IW";
     a1 "A1", b"H";
     e1 "E1", b"H";
     n1 "N1", b"";
@@ -469,6 +469,7 @@ row! { r3:
         BT -> 0 0 0 0";
 }
 
+// 20: option W where another user holds the ISN
 // 145: another user holds the ISN (not L1, not RI)
 
 /// Record 1 is there and user 2 holds it and the empty ISN 2.
@@ -479,6 +480,29 @@ const HELD: &str = "N1 format=AA. record=31 -> 0 1 0 0
 
 fn check_held(call: &str) {
     bench().run(&format!("{HELD}\n{call}"));
+}
+
+each_command! { r20, check_held:
+    hi "HI user=1 option=W isn=1 -> 20 0 0 0
+        HI option=W isn=1 -> 20 0 0 0
+        HI option=W isn=2 -> 20 0 0 0
+        HI option=W isn=3 -> 0 3 0 0
+        HI user=2 option=W isn=1 -> 0 1 0 0";
+    l4 "L4 user=1 option=W isn=1 format=AA. length=1 -> 20 0 0 0
+        L4 option=W isn=1 format=AA. length=1 -> 20 0 0 0
+        L4 option=W isn=2 format=AA. length=1 -> 20 0 0 0
+        L4 option=W isn=3 format=AA. length=1 -> 113 0 0 0
+        L4 user=2 option=W isn=1 format=AA. length=1 -> 0 1 1 0 31";
+}
+
+each_command! { r20_not_at_the_hold_limit, check_held:
+    hi "OP user=1 isn=1 -> 0 0 0 0
+        HI file=2 isn=1 -> 0 1 0 0
+        HI option=W isn=1 -> 145 0 0 0
+        HI user=2 option=W file=2 isn=1 -> 20 0 0 0";
+    l4 "OP user=1 isn=1 -> 0 0 0 0
+        HI file=2 isn=1 -> 0 1 0 0
+        L4 option=W isn=1 format=AA. length=1 -> 145 0 0 0";
 }
 
 each_command! { r145, check_held:
@@ -750,6 +774,17 @@ row! { order:
     r53_before_3 "L1 option=I format=AA. -> 53 0 0 0";
     r55_before_145 "HI user=2 isn=1 file=2 -> 0 1 0 0
                     N2 user=1 isn=1 file=2 format=DA. record=FFFF -> 55 0 0 0";
+    r53_before_20 "HI user=2 isn=1 -> 0 1 0 0
+                   L4 user=1 option=W isn=1 format=AA. -> 53 0 0 0
+                   L4 option=W isn=1 format=AC. -> 41 0 0 0";
+    r20_before_113 "HI user=2 isn=1 -> 0 1 0 0
+                    L4 user=1 option=W isn=1 format=AA. length=1 -> 20 0 0 0";
+    r20_before_70 "HI user=2 isn=1 -> 0 1 0 0
+                   HI isn=2 -> 0 2 0 0
+                   HI isn=3 -> 0 3 0 0
+                   HI file=2 isn=1 -> 0 1 0 0
+                   HI user=1 option=W isn=1 -> 20 0 0 0
+                   HI option=W file=2 isn=2 -> 70 0 0 0";
     r145_before_113 "HI user=2 isn=1 -> 0 1 0 0
                      L4 user=1 isn=1 format=AA. length=1 -> 145 0 0 0";
     r113_before_144 "A1 isn=1 format=AA. record=31 -> 113 0 0 0

@@ -21,8 +21,14 @@ fn lines_with(text: &str, part: &str) -> usize {
 fn laws_of_each_seed() {
     let (good, text) = output(&["7", "4"]);
     assert!(good);
-    assert_eq!(lines_with(&text, " = refl"), 4 * 9);
-    for name in ["list-7", "state-8-1", "set-up-10-3", "aimed-9-2"] {
+    assert_eq!(lines_with(&text, " = refl"), 4 * 18);
+    for name in [
+        "list-7",
+        "state-8-1",
+        "set-up-10-3",
+        "aimed-9-2",
+        "lined-9-4",
+    ] {
         assert_eq!(lines_with(&text, &format!("{name} = refl")), 1, "{name}");
     }
 }
@@ -32,7 +38,7 @@ fn lists_can_be_cut() {
     let (good, text) = output(&["7", "1", "5"]);
     assert!(good);
     assert_eq!(lines_with(&text, "    given (bytes"), 5);
-    assert!(text.ends_with("-- calls: 13\n"), "{text}");
+    assert!(text.ends_with("-- calls: 22\n"), "{text}");
 }
 
 #[test]

@@ -1,4 +1,4 @@
-//! The examples of the Command Reference, of PE and of L1's option `C`, run.
+//! The examples of the Command Reference, of PE, of L1's option `C` and of option `W`, run.
 
 use second::vectors::{read, run};
 
@@ -34,6 +34,11 @@ fn ready() {
 #[test]
 fn committed() {
     check_file("committed.txt", 11);
+}
+
+#[test]
+fn waiting() {
+    check_file("waiting.txt", 27);
 }
 
 const EXAMPLE: &str = "

@@ -22,12 +22,13 @@ pub struct Both<'a> {
 
 type Check = (fn(&Both) -> bool, &'static str);
 
-const CHECKS: [Check; 10] = [
+const CHECKS: [Check; 11] = [
     (answers_equal, "the answers differ"),
     (record_buffers_equal, "the record buffers differ"),
     (guards_stand, "something behind a buffer is written"),
     (definition_stays, "the kept table is changed"),
     (states_equal, "the states differ"),
+    (lines_equal, "the lines differ"),
     (others_stay, "another user is changed"),
     (stores_equal, "the stores differ"),
     (entries_equal, "the entries in use or their images differ"),
@@ -110,16 +111,36 @@ fn marks_equal(both: &Both, expected: &raw::State) -> bool {
         && both.twin_before.state.last_assigned[used..] == found[used..]
 }
 
-/// Users whom neither the call nor the clock is about are as they were, in every byte.
+/// Who waits, and every place, also those past them.
+fn lines_equal(both: &Both) -> bool {
+    twin::line(&both.after.state.line) == both.twin.state.wait_queue
+}
+
+/// Users whom neither the call nor the clock is about are as they were, in every byte; but a hold that is handed over may open
+/// a transaction.
 fn others_stay(both: &Both) -> bool {
     let clock = both.before.state.clock.max(both.call.clock);
     let (before, after) = (&both.twin_before.state, &both.twin.state);
     (0..before.users.len()).all(|place| {
         let is_caller = place + 1 == usize::from(both.call.user);
+        let mut expected = before.users[place];
+        if is_handed_over(both, place as u8 + 1) {
+            expected.transaction = after.users[place].transaction;
+        }
         is_caller
             || both.before.state.users[place].is_late(clock)
-            || (before.users[place], before.et_data[place])
-                == (after.users[place], after.et_data[place])
+            || (expected, before.et_data[place]) == (after.users[place], after.et_data[place])
+    })
+}
+
+/// Whether a user waited before the call and holds what he waited for after it.
+fn is_handed_over(both: &Both, user: u8) -> bool {
+    let mut waiters = both.before.state.line.waiters();
+    let waited = waiters.find(|waiter| waiter.user == user);
+    waited.is_some_and(|waiter| {
+        let entries = both.after.queue.iter();
+        let mut used = entries.take(both.after.state.entries as usize);
+        used.any(|entry| entry.user == user && waiter.is_for(entry.file, entry.isn))
     })
 }
 

@@ -19,6 +19,7 @@ const LARGE: u64 = 8;
 /// Calls and set-ups of one seed, beside its list.
 const ANY: usize = 12;
 const AIMED: usize = 12;
+const LINED: usize = 8;
 const UNKNOWN: usize = 2;
 const SET_UPS: usize = 4;
 
@@ -45,7 +46,7 @@ impl Counts {
         *self.responses.entry(response.to_string()).or_default() += 1;
     }
 
-    /// The responses of document 01 that never came.
+    /// The responses of the documents that never came.
     pub fn missing(&self) -> Vec<&'static str> {
         let wanted = second_compare::REACHED
             .into_iter()
@@ -84,6 +85,11 @@ fn run_seed(seed: u64, counts: &mut Counts) -> Result<(), String> {
         let (mut machine, _, list_call) = any_state::aimed(random);
         let twin = &mut Twin::of(&machine);
         step(&mut machine, twin, &list_call, counts).map_err(at("aimed state", place))?;
+    }
+    for place in 1..=LINED {
+        let (mut machine, _, list_call) = any_state::aimed_at_line(random);
+        let twin = &mut Twin::of(&machine);
+        step(&mut machine, twin, &list_call, counts).map_err(at("state with a line", place))?;
     }
     for place in 1..=UNKNOWN {
         unknown_byte(random, counts).map_err(at("unknown byte", place))?;
@@ -219,6 +225,7 @@ fn is_fresh(found: &raw::State, expected: &State) -> bool {
     (found.count, found.clock, found.entries) == (expected.count, 0, 0)
         && files.all(same_file)
         && found.users.iter().all(idle)
+        && found.wait_queue == expected.wait_queue
         && found.et_data.iter().all(|et_data| et_data.length == 0)
         && found.last_assigned[..used].iter().all(|mark| *mark == 0)
 }

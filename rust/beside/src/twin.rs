@@ -2,6 +2,7 @@
 
 use second::definition::{Definition, Field, File};
 use second::hold;
+use second::line::Line;
 use second::machine::Machine;
 use second::random::ListCall;
 use second::state::{Answer, State, User};
@@ -210,6 +211,7 @@ pub fn state(state: &State) -> raw::State {
         count: state.definition.count,
         clock: state.clock,
         entries: wide(state.entries),
+        wait_queue: line(&state.line),
         ..raw::State::default()
     };
     fill_files(&mut raw, &state.definition);
@@ -222,6 +224,14 @@ pub fn state(state: &State) -> raw::State {
         raw.last_assigned[place] = mark(state, file);
     }
     raw
+}
+
+/// Both keep a waiter as the same number.
+pub fn line(line: &Line) -> raw::WaitQueue {
+    raw::WaitQueue {
+        places: line.places,
+        waiting: line.waiting,
+    }
 }
 
 fn fill_files(raw: &mut raw::State, definition: &Definition) {

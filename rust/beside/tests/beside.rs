@@ -34,7 +34,7 @@ fn call(command: &[u8; 2], option: u8, user: u8, isn: u16, record: &[u8]) -> Lis
     }
 }
 
-/// Both implementations around a call after which a change of a record is open, with ET data and room to spare.
+/// Both implementations around a call, before which a change of a record is open, with ET data and room to spare.
 struct Scene {
     before: Machine,
     after: Machine,
@@ -47,6 +47,11 @@ struct Scene {
 }
 
 fn scene(last: ListCall) -> Scene {
+    scene_after(&[], last)
+}
+
+/// The same, with a few calls more before it.
+fn scene_after(more: &[ListCall], last: ListCall) -> Scene {
     let mut machine =
         Machine::with_sizes(TABLE, 4, 3 * 2 + 2 * 3 + 1, 5, 4 * 2 + 1, 0xA5).expect("good");
     let mut twin = Twin::of(&machine);
@@ -55,7 +60,7 @@ fn scene(last: ListCall) -> Scene {
         call(b"ET", b' ', 1, 0, b"data"),
         call(b"A1", b'H', 1, 1, b"y"),
     ];
-    for list_call in &before {
+    for list_call in before.iter().chain(more) {
         step(&mut machine, &mut twin, list_call, &mut Counts::default()).expect("equal");
     }
     let (before, twin_before) = (machine.clone(), twin.clone());
@@ -92,9 +97,13 @@ impl Scene {
 type Tamper = (fn(&mut Scene), &'static str);
 
 fn seen(last: ListCall, tampers: &[Tamper]) {
-    assert_eq!(scene(last.clone()).compare(), Ok(()));
+    seen_after(&[], last, tampers);
+}
+
+fn seen_after(more: &[ListCall], last: ListCall, tampers: &[Tamper]) {
+    assert_eq!(scene_after(more, last.clone()).compare(), Ok(()));
     for (place, (tamper, said)) in tampers.iter().enumerate() {
-        let mut scene = scene(last.clone());
+        let mut scene = scene_after(more, last.clone());
         tamper(&mut scene);
         let error = scene.compare().expect_err(said);
         assert!(error.starts_with(said), "{place}: {error}");
@@ -150,6 +159,14 @@ const AFTER_GOOD: &[Tamper] = &[
         "the states differ",
     ),
     (
+        |scene| scene.twin.state.wait_queue.waiting = 1,
+        "the lines differ",
+    ),
+    (
+        |scene| scene.twin.state.wait_queue.places[31] = 1,
+        "the lines differ",
+    ),
+    (
         |scene| scene.twin.state.users[4].hold_limit = 9,
         "another user is changed",
     ),
@@ -181,6 +198,60 @@ const AFTER_GOOD: &[Tamper] = &[
 #[test]
 fn each_difference_after_a_good_call_is_seen() {
     seen(call(b"L4", b' ', 1, 1, &[0; 3]), AFTER_GOOD);
+}
+
+/// User 1 ends, and the record is handed over to user 2, while user 3 waits on.
+#[test]
+fn each_difference_after_a_hand_over_is_seen() {
+    seen_after(
+        &[
+            call(b"HI", b'W', 2, 1, b""),
+            call(b"L4", b'W', 3, 1, &[0; 1]),
+        ],
+        call(b"ET", b' ', 1, 0, b""),
+        &[
+            (
+                |scene| scene.given.answer.quantity = 0,
+                "the answers differ",
+            ),
+            (
+                |scene| scene.twin.state.users[1].transaction.active = false,
+                "the states differ",
+            ),
+            (
+                |scene| scene.twin.state.users[1].transaction.begun = 7,
+                "the states differ",
+            ),
+            (
+                |scene| scene.twin.state.users[2].transaction.active = true,
+                "the states differ",
+            ),
+            (
+                |scene| scene.twin.state.wait_queue.waiting = 2,
+                "the lines differ",
+            ),
+            (
+                |scene| scene.twin.state.wait_queue.places[0] |= 1 << 40,
+                "the lines differ",
+            ),
+            (
+                |scene| scene.twin.state.wait_queue.places[1] = 0,
+                "the lines differ",
+            ),
+            (
+                |scene| scene.twin.state.et_data[1].bytes[9] = 9,
+                "another user is changed",
+            ),
+            (
+                |scene| scene.twin.queue.lent()[0].user = 3,
+                "the entries in use",
+            ),
+            (
+                |scene| scene.twin.queue.lent()[0].existed = false,
+                "the entries in use",
+            ),
+        ],
+    );
 }
 
 /// What is free after a good call: entries past the count with their images, image bytes past the width, and what

@@ -15,7 +15,8 @@ printed is a call list too. second/README.md has the notation: the lines of
 
   --check    print no calls; compare each answer with what stands after ->
              and stop at the first difference
-  --explain  say of each refused call why, in a comment line behind it
+  --explain  say in comment lines behind a call why it was refused, whom it
+             waits for, and to whom it handed a hold over
   --second   run the second implementation instead of the proved nucleus
   --help     print this
 

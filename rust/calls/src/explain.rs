@@ -1,17 +1,70 @@
-//! Why a call was refused, in one sentence: the cause that the response's row names, as far as the call shows which.
+//! Why a call was refused, in one sentence: the cause that the response's row names, as far as the call shows which; whom one
+//! waits for; and to whom a hold was handed over.
 
+use crate::implementation::Implementation;
 use call_lists::Call;
 use second::definition;
-use towungbe::{Command, Response};
+use towungbe::raw::Waiter;
+use towungbe::{Command, CommandOption, Response};
 
-/// Number and cause of a refusal; none for a good call.
-pub fn refusal(table: &[u8], call: &Call, number: u16) -> Option<String> {
-    let response = Response::from_number(number);
-    match response {
-        Some(Response::Good) => None,
-        Some(response) => Some(format!("{number}: {}", cause(table, call, response))),
-        None => Some(self::response(number)),
+/// Number and cause of a refusal, by the nucleus after it; none for a good call.
+pub fn refusal(
+    table: &[u8],
+    nucleus: &dyn Implementation,
+    call: &Call,
+    number: u16,
+) -> Option<String> {
+    let why = match Response::from_number(number) {
+        Some(Response::Good) => return None,
+        Some(Response::Waiting) => waiting(nucleus, call),
+        Some(response) => cause(table, call, response),
+        None => return Some(self::response(number)),
+    };
+    Some(format!("{number}: {why}"))
+}
+
+/// Who holds what the caller waits for, and how many wait for it before him.
+fn waiting(nucleus: &dyn Implementation, call: &Call) -> String {
+    let waiters = nucleus.waiters();
+    let before = waiters
+        .iter()
+        .take_while(|waiter| waiter.user != call.user)
+        .filter(|waiter| (waiter.file, waiter.isn) == (call.file, call.isn));
+    let place = match before.count() {
+        0 => "this user is the first in line".to_string(),
+        1 => "1 user waits before this one".to_string(),
+        count => format!("{count} users wait before this one"),
+    };
+    match nucleus.holder(call.file, call.isn) {
+        Some(holder) => format!("User {holder} holds the ISN, and {place}."),
+        None => Response::Waiting.explanation().to_string(),
     }
+}
+
+/// What a call handed over: of those who waited before it, each who holds what he waited for, unless another call of his took
+/// it.
+pub fn handed_over(waited: &[Waiter], nucleus: &dyn Implementation, call: &Call) -> Vec<String> {
+    let has_the_hold = |waiter: &&Waiter| {
+        let took_it = waiter.user == call.user && !is_same_call(waiter, call);
+        nucleus.holder(waiter.file, waiter.isn) == Some(waiter.user) && !took_it
+    };
+    let said = |waiter: &Waiter| {
+        let Waiter {
+            user, file, isn, ..
+        } = waiter;
+        format!("ISN {isn} of file {file} is handed over to user {user}, who waited for it.")
+    };
+    waited.iter().filter(has_the_hold).map(said).collect()
+}
+
+/// Whether a call is the one by which somebody waits.
+fn is_same_call(waiter: &Waiter, call: &Call) -> bool {
+    let command = match waiter.reads {
+        true => Command::L4,
+        false => Command::Hi,
+    };
+    (waiter.user, waiter.file, waiter.isn) == (call.user, call.file, call.isn)
+        && (command.code(), CommandOption::Wait.code()) == (call.command, call.option)
 }
 
 /// Number and cause of a response without a call.
@@ -41,6 +94,10 @@ fn cause(table: &[u8], call: &Call, response: Response) -> String {
             "The record buffer is shorter than the named fields.".to_string()
         }
         (Response::IsnInvalid, _) => isn_cause(table, call),
+        (Response::HeldByAnother, _) if call.option == CommandOption::Wait.code() => {
+            "Another user holds the ISN, and this one may hold no more: he does not wait."
+                .to_string()
+        }
         _ => response.explanation().to_string(),
     }
 }

@@ -1,12 +1,22 @@
 //! The two implementations that a list can be run on.
 
 use call_lists::{Answer, Call, List, Nucleus};
+use second::hold;
 use second::machine::Machine;
-use towungbe::raw::Entry;
+use towungbe::raw::{Entry, Waiter};
 use towungbe::Buffers;
 
+/// A nucleus that says who holds and who waits.
+pub trait Implementation: Nucleus {
+    /// The user who holds an ISN of a file.
+    fn holder(&self, file: u8, isn: u16) -> Option<u8>;
+
+    /// Who waits, the longest first.
+    fn waiters(&self) -> Vec<Waiter>;
+}
+
 /// Sets up the nucleus of a list; the error is the response.
-pub fn set_up(list: &List, second: bool) -> Result<Box<dyn Nucleus>, u16> {
+pub fn set_up(list: &List, second: bool) -> Result<Box<dyn Implementation>, u16> {
     match second {
         true => Ok(Box::new(second_set_up(list)?)),
         false => Ok(Box::new(Proved(proved_set_up(list)?))),
@@ -27,6 +37,17 @@ fn second_set_up(list: &List) -> Result<Machine, u16> {
             lent.fill,
         ),
         None => Machine::new(table, *capacity, 0),
+    }
+}
+
+impl Implementation for Machine {
+    fn holder(&self, file: u8, isn: u16) -> Option<u8> {
+        hold::holder(self.entries(), file, isn)
+    }
+
+    fn waiters(&self) -> Vec<Waiter> {
+        let words = self.state.line.waiters().map(|waiter| waiter.word());
+        words.map(Waiter::from).collect()
     }
 }
 
@@ -65,5 +86,17 @@ impl Nucleus for Proved {
             quantity: answer.quantity,
             sequence: answer.sequence,
         }
+    }
+}
+
+impl Implementation for Proved {
+    fn holder(&self, file: u8, isn: u16) -> Option<u8> {
+        let mut entries = self.0.entries().iter();
+        let entry = entries.find(|entry| (entry.file, entry.isn) == (file, isn));
+        entry.map(|entry| entry.user)
+    }
+
+    fn waiters(&self) -> Vec<Waiter> {
+        self.0.waiters().collect()
     }
 }

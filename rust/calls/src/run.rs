@@ -2,11 +2,12 @@
 
 use crate::arguments::Arguments;
 use crate::explain;
-use crate::implementation;
+use crate::implementation::{self, Implementation};
 use crate::Failure;
-use call_lists::List;
+use call_lists::{Call, List, Outcome};
 use std::fmt;
 use std::io::Write;
+use towungbe::raw::Waiter;
 
 /// What was done, over all lists.
 #[derive(Default)]
@@ -48,27 +49,41 @@ pub fn run_list(
         .map_err(|response| refused_set_up(list, response))?;
     counts.lists += 1;
     for listed in &list.calls {
+        let waited = nucleus.waiters();
         let outcome = call_lists::run_call(nucleus.as_mut(), &listed.call);
         counts.calls += 1;
-        let why = match arguments.explain {
-            true => explain::refusal(&list.table, &listed.call, outcome.answer.response),
-            false => None,
+        let said = match arguments.explain {
+            true => said_of(list, nucleus.as_ref(), &waited, &listed.call, &outcome),
+            false => Vec::new(),
         };
         if arguments.check {
             counts.compared += usize::from(listed.expected.is_some());
             listed.check(&outcome).map_err(|differs| {
-                let because = why.map(|why| format!("; {why}")).unwrap_or_default();
+                let because: String = said.iter().map(|why| format!("; {why}")).collect();
                 let text = &listed.text;
                 Failure::Differs(format!("line {}: {differs} ({text}){because}", listed.line))
             })?;
             continue;
         }
         writeln!(output, "{} -> {}", listed.text, listed.found(&outcome))?;
-        if let Some(why) = why {
-            writeln!(output, "# {why}")?;
+        for sentence in said {
+            writeln!(output, "# {sentence}")?;
         }
     }
     Ok(())
+}
+
+/// The sentences about a call: why it was refused, and what it handed over.
+fn said_of(
+    list: &List,
+    nucleus: &dyn Implementation,
+    waited: &[Waiter],
+    call: &Call,
+    outcome: &Outcome,
+) -> Vec<String> {
+    let refusal = explain::refusal(&list.table, nucleus, call, outcome.answer.response);
+    let handed_over = explain::handed_over(waited, nucleus, call);
+    refusal.into_iter().chain(handed_over).collect()
 }
 
 fn refused_set_up(list: &List, response: u16) -> Failure {

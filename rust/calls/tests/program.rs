@@ -15,6 +15,10 @@ const COMMITTED: &str = concat!(
     env!("CARGO_MANIFEST_DIR"),
     "/../../second/vectors/committed.txt"
 );
+const WAITING: &str = concat!(
+    env!("CARGO_MANIFEST_DIR"),
+    "/../../second/vectors/waiting.txt"
+);
 const LISTS: &str = concat!(env!("CARGO_MANIFEST_DIR"), "/../../second/lists");
 
 /// Runs the program on a text.
@@ -90,8 +94,8 @@ fn prints_each_call_with_its_answer_and_why() {
     }
 }
 
-/// The Command Reference's vectors, those of PE and of option `C`, and the sources of the house call lists that have no bad
-/// input.
+/// The Command Reference's vectors, those of PE and of the options `C` and `W`, and the sources of the house call lists that
+/// have no bad input.
 #[test]
 fn the_saved_lists_are_as_expected() {
     let sources = [
@@ -104,7 +108,8 @@ fn the_saved_lists_are_as_expected() {
         "committed-reading",
         "command-reference-1",
     ];
-    let mut files = [VECTORS, READY, COMMITTED].map(String::from).to_vec();
+    let vectors = [VECTORS, READY, COMMITTED, WAITING];
+    let mut files = vectors.map(String::from).to_vec();
     files.extend(sources.map(|name| format!("{LISTS}/{name}.txt")));
     let files: Vec<&str> = files.iter().map(String::as_str).collect();
     for implementation in [&["--check"][..], &["--check", "--second"]] {
@@ -241,6 +246,8 @@ fn says_why() {
         ("HI isn=1\ncall: HI isn=1 clock=901", "9: The user's transaction took longer than his time limit and was backed out."),
         ("HI isn=1\ncall: CL", "9: The user's transaction was backed out: it took longer than his time limit, or he called OP or CL before ending it."),
         ("RI isn=1", "144: The user does not hold the ISN."),
+        ("HI isn=1\ncall: HI user=2 option=W isn=1", "20: User 1 holds the ISN, and this user is the first in line."),
+        ("OP user=2 isn=1\ncall: HI isn=2\ncall: HI user=1 isn=1\ncall: HI user=2 option=W isn=1", "145: Another user holds the ISN, and this one may hold no more: he does not wait."),
     ];
     for (calls, why) in cases {
         for second in [&["--explain"][..], &["--explain", "--second"]] {
@@ -252,4 +259,67 @@ fn says_why() {
             );
         }
     }
+}
+
+const OFFICES: &str = "example: a line of three, and one for another record
+table: 01010002 025243014155 00
+call: N2 isn=1 format=RC. text=x
+call: HI isn=2
+call: L4 user=2 option=W isn=1 format=RC. length=1
+call: HI user=5 option=W isn=2
+call: L4 user=3 option=W isn=1 format=RC. length=1
+call: HI user=4 option=W isn=1
+call: RI user=1 isn=2
+call: ET
+call: HI user=4 option=W isn=1 clock=901
+call: HI user=3 isn=1
+call: BT
+";
+
+const OFFICES_SAID: [&str; 9] = [
+    "20: User 1 holds the ISN, and this user is the first in line.",
+    "20: User 1 holds the ISN, and this user is the first in line.",
+    "20: User 1 holds the ISN, and 1 user waits before this one.",
+    "20: User 1 holds the ISN, and 2 users wait before this one.",
+    "ISN 2 of file 1 is handed over to user 5, who waited for it.",
+    "ISN 1 of file 1 is handed over to user 2, who waited for it.",
+    // At 901 users 2 and 5, who never came, are backed out.
+    "20: User 3 holds the ISN, and this user is the first in line.",
+    "ISN 1 of file 1 is handed over to user 3, who waited for it.",
+    // User 3's HI without `W` finds his own hold.
+    "ISN 1 of file 1 is handed over to user 4, who waited for it.",
+];
+
+/// Who holds, how many wait before, and to whom a hold goes: by RI, ET, BT and the clock.
+#[test]
+fn says_whom_one_waits_for_and_what_is_handed_over() {
+    let expected = OFFICES_SAID.map(|said| format!("# {said}"));
+    for second in [&["--explain"][..], &["--explain", "--second"]] {
+        let printed = good(second, OFFICES);
+        let said: Vec<&str> = printed
+            .lines()
+            .filter(|line| line.starts_with('#'))
+            .collect();
+        assert_eq!(said, expected);
+        assert!(!good(&second[1..], OFFICES).contains('#'));
+    }
+}
+
+/// Whoever takes a free hold by another call of his got nothing handed over.
+#[test]
+fn a_hold_that_is_taken_is_not_handed_over() {
+    let text = "example: a
+table: 01010002 025243014155 00
+call: HI isn=1
+call: HI user=2 option=W isn=1
+call: HI isn=1 clock=901
+";
+    let printed = good(&["--explain"], text);
+    assert!(printed.ends_with("clock=901 -> 0 1 0 0\n"), "{printed}");
+    let again = good(
+        &["--explain"],
+        text.replace("HI isn=1 clock", "HI option=W isn=1 clock"),
+    );
+    let said = "# ISN 1 of file 1 is handed over to user 2, who waited for it.\n";
+    assert!(again.ends_with(said), "{again}");
 }

@@ -51,6 +51,8 @@ pub enum CommandOption {
     Lowest,
     /// `C` of L1: the record as ended transactions left it.
     Committed,
+    /// `W` of HI and L4: waits in line where another user holds the record.
+    Wait,
     /// `H` of A1 and E1: takes the hold.
     Hold,
     /// `A` of OP: the user may only read.
@@ -63,6 +65,7 @@ impl CommandOption {
             CommandOption::None => b' ',
             CommandOption::Lowest => b'I',
             CommandOption::Committed => b'C',
+            CommandOption::Wait => b'W',
             CommandOption::Hold => b'H',
             CommandOption::AccessOnly => b'A',
         }

@@ -1,6 +1,6 @@
 //! A nucleus that owns its buffers.
 
-use crate::raw::{self, Block, Entry, State};
+use crate::raw::{self, Block, Entry, State, Waiter};
 use crate::{Answer, Call, Response};
 
 /// A record nucleus with its store, hold queue and images.
@@ -154,6 +154,33 @@ impl Nucleus {
     pub fn entries(&self) -> &[Entry] {
         let queue = &self.buffers.queue;
         &queue[..self.state.entries.min(queue.len())]
+    }
+
+    /// Who waits for records, the longest first. The line of a record is those who wait for it.
+    ///
+    /// [`CommandOption::Wait`] (`W`) of HI and L4 joins it where another user holds the record, and the same call again keeps
+    /// the place. When the holder lets go, the first in line has the hold:
+    ///
+    /// ```
+    /// # use towungbe::{Call, Command, CommandOption, Nucleus, Response};
+    /// # let mut nucleus = Nucleus::new(b"\x01\x01\x00\x03\x02RC\x01AU\x00", 64)?;
+    /// let hold = |user| Call::new(Command::Hi, user).with_option(CommandOption::Wait).with_file(1).with_isn(2);
+    /// assert_eq!(nucleus.call(&hold(1), b"", &mut []).response, Response::Good);
+    /// assert_eq!(nucleus.call(&hold(3), b"", &mut []).response, Response::Waiting);
+    /// assert_eq!(nucleus.call(&hold(2), b"", &mut []).response, Response::Waiting);
+    /// assert!(nucleus.waiters().map(|waiter| waiter.user).eq([3, 2]));
+    /// nucleus.call(&Call::new(Command::Et, 1), b"", &mut []);
+    /// assert_eq!(nucleus.call(&hold(2), b"", &mut []).response, Response::Waiting);
+    /// assert_eq!(nucleus.call(&hold(3), b"", &mut []).response, Response::Good);
+    /// # Ok::<(), Response>(())
+    /// ```
+    ///
+    /// Any other call of a waiter leaves the line. The hold opens a transaction, where he has none, and his time limit runs
+    /// from then on: whoever does not ask again in time is backed out, and the next in line has the hold.
+    ///
+    /// [`CommandOption::Wait`]: crate::CommandOption::Wait
+    pub fn waiters(&self) -> impl Iterator<Item = Waiter> + '_ {
+        self.state.wait_queue.waiters()
     }
 
     /// What is kept between calls beside the buffers.

@@ -81,6 +81,48 @@ pub struct EtData {
     pub bytes: [u8; ET_DATA],
 }
 
+/// Who waits for records, in the order of joining; the line of a record is those who wait for it. Places past the number
+/// mean nothing.
+#[repr(C)]
+#[derive(Clone, Copy, Debug, Default, PartialEq, Eq)]
+pub struct WaitQueue {
+    /// A [`Waiter`] each.
+    pub places: [u64; USERS],
+    /// How many wait.
+    pub waiting: usize,
+}
+
+/// Who waits for an ISN that another user holds.
+#[derive(Clone, Copy, Debug, PartialEq, Eq)]
+pub struct Waiter {
+    pub user: u8,
+    /// The file's number.
+    pub file: u8,
+    pub isn: u16,
+    /// By L4; otherwise by HI.
+    pub reads: bool,
+}
+
+impl From<u64> for Waiter {
+    /// The waiter at a place; its bits above 32 are not looked at.
+    fn from(place: u64) -> Waiter {
+        Waiter {
+            user: place as u8,
+            file: (place >> 8) as u8,
+            isn: (place >> 16) as u16,
+            reads: place >> 32 & 1 == 1,
+        }
+    }
+}
+
+impl WaitQueue {
+    /// Who waits, the longest first.
+    pub fn waiters(&self) -> impl Iterator<Item = Waiter> + '_ {
+        let places = self.places.iter().take(self.waiting);
+        places.map(|place| Waiter::from(*place))
+    }
+}
+
 /// What is kept between calls, beside the lent buffers. Its default has no file: every call on it gets 12.
 #[repr(C)]
 #[derive(Clone, Copy, Debug, Default, PartialEq, Eq)]
@@ -96,6 +138,8 @@ pub struct State {
     pub last_assigned: [u16; FILES],
     /// How many entries of the hold queue are in use.
     pub entries: usize,
+    /// Who waits.
+    pub wait_queue: WaitQueue,
 }
 
 /// A call's arguments, and its answer.

@@ -32,6 +32,7 @@ responses! {
     TooShort = 11, "A lent buffer is too short, or the hold queue's capacity is not 1 to 256.";
     NotWellMade = 12, "The kept state is not well made: no set-up and no call leaves such a state.";
     FileUndefined = 17, "The file is not defined.";
+    Waiting = 20, "Another user holds the ISN, and the user waits for it in line: the same call again keeps his place.";
     CommandUnknown = 22, "The command is unknown, or the option is none of this command's.";
     AccessOnly = 29, "The user is access-only, and may call OP, CL, L1 and RE only.";
     FormatInvalid = 41, "The format buffer is neither names divided by commas and ended by a period nor a period alone, or it names a field that the file does not have.";

@@ -4,7 +4,9 @@ use std::fmt::Write;
 use std::mem::{offset_of, size_of};
 use std::path::{Path, PathBuf};
 use std::process::Command;
-use towungbe::raw::{self, Block, Entry, EtData, Field, File, Place, State, Transaction, User};
+use towungbe::raw::{
+    self, Block, Entry, EtData, Field, File, Place, State, Transaction, User, WaitQueue, Waiter,
+};
 use towungbe::Response;
 
 /// Lines `type size` and `type.field offset` of Rust's types, and a C program's statements that print the header's.
@@ -61,11 +63,35 @@ fn the_types_have_one_layout() {
         "towungbe_transaction" Transaction: begun active ready;
         "towungbe_user" User: sequence transaction hold_limit time_limit session access_only overdue;
         "towungbe_et_data" EtData: length bytes;
-        "towungbe_state" State: count files clock users et_data last_assigned entries;
+        "towungbe_wait_queue" WaitQueue: places waiting;
+        "towungbe_state" State: count files clock users et_data last_assigned entries wait_queue;
         "towungbe_block" Block: command option user file isn limit clock response answered_isn sequence quantity;
         "towungbe_place" Place: start length imaged;
     };
     assert_eq!(printed("layout", &statements), lines);
+}
+
+/// The header's function and the crate's take a place apart alike.
+#[test]
+fn a_waiter_is_the_same() {
+    let places = [0, 0x1_C3D4_B2A1, 0xC3D4_B2A1, u64::MAX, !(1 << 32)];
+    let mut statements = "static towungbe_state state;\n".to_string();
+    let mut lines = String::new();
+    for place in places {
+        let Waiter {
+            user,
+            file,
+            isn,
+            reads,
+        } = Waiter::from(place);
+        writeln!(lines, "{user} {file} {isn} {}", u8::from(reads)).expect("text");
+        statements += &format!(
+            "state.wait_queue.places[31] = {place}u;
+             {{ towungbe_waiter w = towungbe_waiter_at(&state, 31);
+             printf(\"%u %u %u %d\\n\", w.user, w.file, w.isn, w.reads); }}\n"
+        );
+    }
+    assert_eq!(printed("waiter", &statements), lines);
 }
 
 #[test]

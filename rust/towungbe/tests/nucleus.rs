@@ -1,7 +1,7 @@
 //! The crate over the library: any bytes are answered, buffers stay as they are past their sizes, and each response of
 //! the documents has its name.
 
-use towungbe::raw::{self, Block, Entry, Lent, State};
+use towungbe::raw::{self, Block, Entry, Lent, State, Waiter};
 use towungbe::{Buffers, Call, Command, CommandOption, Nucleus, Response};
 
 /// File 1, highest ISN 3: RC, one byte, unique; HH, two bytes. File 2, highest ISN 1: AA, five bytes.
@@ -21,8 +21,8 @@ fn call(nucleus: &mut Nucleus, call: Call, format: &[u8], record: &[u8]) -> Resp
 #[test]
 fn the_responses_are_the_documents() {
     let numbers = [
-        0, 3, 9, 10, 11, 12, 17, 22, 29, 41, 44, 47, 53, 55, 70, 72, 75, 113, 144, 145, 146, 198,
-        211, 212,
+        0, 3, 9, 10, 11, 12, 17, 20, 22, 29, 41, 44, 47, 53, 55, 70, 72, 75, 113, 144, 145, 146,
+        198, 211, 212,
     ];
     assert_eq!(Response::ALL.map(Response::number), numbers);
     for number in 0..=u16::MAX {
@@ -110,6 +110,7 @@ fn commands_and_options_are_known() {
         (CommandOption::None, &Command::ALL[..]),
         (CommandOption::Lowest, &[Command::L1, Command::L4]),
         (CommandOption::Committed, &[Command::L1]),
+        (CommandOption::Wait, &[Command::Hi, Command::L4]),
         (CommandOption::Hold, &[Command::A1, Command::E1]),
         (CommandOption::AccessOnly, &[Command::Op]),
     ];
@@ -204,7 +205,7 @@ fn a_state_that_is_not_well_made_gets_12() {
     assert_eq!(response_on(&mut State::default()), 12, "nothing set up");
     let good = *nucleus().state();
     assert_eq!(response_on(&mut good.clone()), 0);
-    let spoilers: [fn(&mut State); 9] = [
+    let spoilers: [fn(&mut State); 12] = [
         |state| state.files[0].fields[0].format = 4,
         |state| state.files[0].fields[1].option = 3,
         |state| state.files[1].fields[0].length = 254,
@@ -214,6 +215,9 @@ fn a_state_that_is_not_well_made_gets_12() {
         |state| state.users[3].transaction.active = true,
         |state| state.users[3].transaction.ready = true,
         |state| state.last_assigned[0] = 4,
+        |state| state.wait_queue.waiting = 1,
+        |state| state.wait_queue.waiting = 33,
+        |state| state.wait_queue.waiting = usize::MAX,
     ];
     for (place, spoil) in spoilers.iter().enumerate() {
         let mut state = good;
@@ -222,6 +226,44 @@ fn a_state_that_is_not_well_made_gets_12() {
         assert_eq!(response_on(&mut state), 12, "{place}");
         assert_eq!(state, spoilt, "all is left as it was");
     }
+}
+
+/// Option W: who waits can be read, in order, and the first has the hold when it is let go, with a transaction.
+#[test]
+fn a_hold_is_handed_over() {
+    let mut nucleus = nucleus();
+    let waiting = |command, user| {
+        Call::new(command, user)
+            .with_option(CommandOption::Wait)
+            .with_file(1)
+            .with_isn(2)
+    };
+    let add = Call::new(Command::N2, 1).with_file(1).with_isn(2);
+    assert!(call(&mut nucleus, add, b"RC.", b"x").is_good());
+    for (command, user) in [(Command::L4, 3), (Command::Hi, 2)] {
+        let response = call(&mut nucleus, waiting(command, user), b"RC.", b" ");
+        assert_eq!(response, Response::Waiting);
+    }
+    let waiter = |user, reads| Waiter {
+        user,
+        file: 1,
+        isn: 2,
+        reads,
+    };
+    let waiters: Vec<Waiter> = nucleus.waiters().collect();
+    assert_eq!(waiters, [waiter(3, true), waiter(2, false)]);
+    let end = Call::new(Command::Et, 1).with_clock(50);
+    assert_eq!(nucleus.call(&end, b"", &mut []).quantity, 1);
+    assert_eq!(nucleus.entries()[0].user, 3);
+    let transaction = nucleus.state().users[2].transaction;
+    assert_eq!((transaction.active, transaction.begun), (true, 50));
+    let mut record = [0];
+    let read = nucleus.call(&waiting(Command::L4, 3), b"RC.", &mut record);
+    assert_eq!((read.response, record), (Response::Good, *b"x"));
+    assert!(nucleus.waiters().eq([waiter(2, false)]));
+    let other = Call::new(Command::Re, 2);
+    assert!(call(&mut nucleus, other, b"", &[0; 64]).is_good());
+    assert_eq!(nucleus.waiters().count(), 0, "another call leaves the line");
 }
 
 /// PE: the record of a transaction that is ready waits for its ET, however late that comes.

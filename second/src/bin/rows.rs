@@ -18,9 +18,10 @@ use std::process::ExitCode;
 
 const USAGE: &str = "usage: rows FIRST COUNT [CALLS]";
 
-/// Single calls, and set-ups, for each seed; and single calls that are aimed at a rule.
+/// Single calls, and set-ups, for each seed; and single calls that are aimed at a rule, or at the line.
 const SINGLES: usize = 3;
-const AIMED: usize = 2;
+const AIMED: usize = 6;
+const LINED: usize = 5;
 
 /// How many ISNs that are held are asked for their committed record, in each list and state.
 const HELD_PLACES: usize = 3;
@@ -107,6 +108,10 @@ fn module(first: u64, count: u64, calls: u64) -> Result<String, String> {
         for place in 1..=AIMED {
             let (machine, _, list_call) = any_state::aimed(random);
             text += &state_law(&format!("aimed-{seed}-{place}"), machine, &list_call, tally);
+        }
+        for place in 1..=LINED {
+            let (machine, _, list_call) = any_state::aimed_at_line(random);
+            text += &state_law(&format!("lined-{seed}-{place}"), machine, &list_call, tally);
         }
     }
     Ok(text + &tally.text())
