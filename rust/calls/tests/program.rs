@@ -106,6 +106,7 @@ fn the_saved_lists_are_as_expected() {
         "no-fields",
         "packed-signs",
         "committed-reading",
+        "waiting",
         "command-reference-1",
     ];
     let vectors = [VECTORS, READY, COMMITTED, WAITING];
