@@ -36,7 +36,7 @@ pub mod EntryLists
 pub mod Resting
 pub mod Records
 pub mod BackingOut
-pub mod Waiting
+pub mod Ready
 pub mod Committed
 pub mod CommittedReads
 pub mod Theorem

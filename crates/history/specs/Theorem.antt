@@ -41,7 +41,7 @@ use Rattle.history.specs.Sizes.{alike-self, alike-then}
 use Rattle.history.specs.EntryLists.{passed-called, usable-called, inside-called, queue-called, lent-words, passed-set-up}
 use Rattle.history.specs.Records.{same-records, unique-values}
 use Rattle.history.specs.Resting.{past-clock, told-then, passed-then, performed-good, bt-performed, et-performed}
-use Rattle.history.specs.Waiting.{Awaited, awaited-still, awaited-then, awaited-past, awaited-fed}
+use Rattle.history.specs.Ready.{Awaited, awaited-still, awaited-then, awaited-past, awaited-fed}
 use Rattle.history.specs.Committed.{committed-left, part-bytes}
 use Rattle.history.specs.CommittedReads.{committed-reads}
 use Rattle.history.specs.BackingOut.{passed-back-outs, queue-back-outs, accepted-back-outs, fed-back-outs}

@@ -1,6 +1,6 @@
 -- The response table (document 01, 'Responses, in the order of checking', with the rows of document 02): each row its cause and when it holds. The
 -- response is that of the first row that holds. What a refused call leaves goes by the four lists: nothing is changed by the first; the second comes
--- after the clock and the back-outs, the others after the session that opened.
+-- after the line that the caller left, the clock and the back-outs, the others after the session that opened. Whoever is answered 20 is in the line then.
 use Prim.Native.Nat.{ℕ}
 use mathlib.Core.Bool.{Bool, false, not, _&&_, _||_}
 use mathlib.Core.List.{List, [], _∷_}
