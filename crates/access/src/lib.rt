@@ -1,4 +1,6 @@
 // Whether a caller is let in, after the clock (document 01, 'Responses'): 9, the session that opens, 211, 29, 212.
+#![tactic(auto)]
+
 ghost use Rattle.std.specs.Prelude.{◌&&◌, not, List, ◌≡◌, ℕ};
 ghost use Rattle.nucleus.specs.Commands.{one_of, on_session, serving_ready, setting_ready, serving_access_only};
 ghost use Rattle.nucleus.specs.Users.{is_active, is_ready};
@@ -110,7 +112,7 @@ fn judge(command: Command, user: User) -> Verdict
 }
 
 // Whether a caller is let in, and what is left then.
-#[derive(Drop)]
+#[derive(Clone, Copy)]
 pub struct Entered {
     pub verdict: Verdict,
     pub standing: Standing,

@@ -1,5 +1,7 @@
 // N1 and N2 add a record (document 01): N2 at the given ISN, N1 at one that it finds. The record is made in a place of its own, judged there,
 // and then put into the store.
+#![tactic(auto)]
+
 ghost use Rattle.std.specs.Prelude.{◌≡◌, ◌≤◌};
 ghost use Rattle.records.specs.Records.{record_length};
 ghost use Rattle.nucleus.specs.Responses.{good};

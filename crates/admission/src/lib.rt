@@ -1,5 +1,7 @@
 // What comes before a command that is understood (document 01, 'Responses'; document 02, No. 1): the line that the caller leaves, the clock with its
 // back-outs, 9, the session that opens, 211, 29, 212.
+#![tactic(auto)]
+
 ghost use Rattle.std.specs.Prelude.{List, ◌≡◌, ℕ, max};
 ghost use Rattle.nucleus.specs.Waiters.{left_by};
 ghost use Rattle.nucleus.specs.Clock.{clocked};
@@ -14,7 +16,7 @@ use nucleus::{Call, Command};
 use shares::Verdict;
 
 // Whether the call is let in, and what the clock, a back-out and the session that opened left.
-#[derive(Drop)]
+#[derive(Clone, Copy)]
 pub struct Admitted {
     pub verdict: Verdict,
     pub clock: u32,

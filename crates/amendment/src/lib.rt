@@ -1,4 +1,6 @@
 // A1 replaces the named fields of a record where it lies: the slot of one ISN, a part of the store starting in its middle, is lent on to be written.
+#![tactic(auto)]
+
 ghost use Rattle.std.specs.Prelude.{◌≡◌};
 ghost use Rattle.amendment.specs.Amendment.{amended};
 

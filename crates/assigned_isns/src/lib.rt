@@ -1,4 +1,6 @@
 // Whether the ISNs that N1 last gave are well made (document 01, below the table of responses: N1's marks).
+#![tactic(auto)]
+
 ghost use Rattle.std.specs.Prelude.{◌≡◌};
 ghost use Rattle.definition.specs.Table.{files_of};
 ghost use Rattle.nucleus.specs.WellMade.{assigned_made};

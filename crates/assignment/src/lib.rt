@@ -1,5 +1,7 @@
 // N1's ISN (document 01): "the first ISN after the one that N1 last gave in that file (0 when fresh), going round once, that has no record and
 // no holder".
+#![tactic(auto)]
+
 ghost use Rattle.std.specs.Prelude.{◌≡◌, not, ◌&&◌, ◌-◌, ◌≤◌, ◌<◌, length};
 ghost use Rattle.lists.specs.Folds.{any};
 ghost use Rattle.lists.specs.Numbers.{numbers};

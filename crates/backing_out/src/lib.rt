@@ -1,4 +1,6 @@
 // BT: a transaction is backed out.
+#![tactic(auto)]
+
 ghost use Rattle.std.specs.Prelude.{◌≡◌};
 ghost use Rattle.removal.specs.declared.Removal.TheVariants.{All};
 ghost use Rattle.hold.specs.Hold.{restore};

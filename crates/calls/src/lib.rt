@@ -1,5 +1,7 @@
 // One call (document 01, 'One call'): every check in the table's order, the clock, and the command. The state comes and goes by value, here
 // alone; store, hold queue, image buffer, format and record buffer are lent, and may be longer than is needed.
+#![tactic(auto)]
+
 ghost use Rattle.std.specs.Prelude.{true, ◌≡◌, ◌≤◌, length};
 ghost use Rattle.layout.specs.Layout.{store_size, place};
 ghost use Rattle.nucleus.specs.Responses.{refused};
@@ -22,7 +24,7 @@ use shares::{Done, Share, Verdict};
 use understanding::Understood;
 
 // What a call answers, and the state that it leaves.
-#[derive(Drop)]
+#[derive(Clone, Copy)]
 pub struct Outcome {
     pub answer: Answer,
     pub state: State,

@@ -1,4 +1,6 @@
 // The rows of a change at the call's ISN (document 01), which A1 and E1 both have.
+#![tactic(auto)]
+
 ghost use Rattle.std.specs.Prelude.{◌≡◌};
 ghost use Rattle.nucleus.specs.Rows.{first_cause};
 ghost use Rattle.shares.specs.Shares.{verdict};

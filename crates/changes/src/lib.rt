@@ -1,4 +1,6 @@
 // The first change of an entry: it counts as changed from then on, and the record that it changes is kept as its image.
+#![tactic(auto)]
+
 ghost use Rattle.std.specs.Prelude.{◌≡◌, ◌+◌, ◌*◌, ◌<◌, leb, length};
 ghost use Rattle.changes.specs.Changes.{change, keep_image, first_change_queue, first_change_images};
 

@@ -1,4 +1,6 @@
 // The table of commands (document 01, 'The house call list') and that of the later ones: a command by its two letters.
+#![tactic(auto)]
+
 ghost use Rattle.std.specs.Prelude.{◌≡◌};
 ghost use Rattle.lists.specs.Tests.{eqbs};
 ghost use Rattle.nucleus.specs.Commands.{direct_commands, code_at, command_of};
@@ -16,7 +18,7 @@ const CODES: [[u8; 2]; COMMANDS] = [
 const LATER_CODES: [[u8; 2]; LATER_COMMANDS] = [*b"PE"];
 
 // What two letters say.
-#[derive(Drop)]
+#[derive(Clone, Copy)]
 pub enum Decoded {
     Known(Command),
     Unknown,

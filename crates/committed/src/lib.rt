@@ -1,4 +1,6 @@
 // A record as ended transactions left it (document 02, No. 8): which version of it that is, and its bytes as a part of what was lent, uncopied.
+#![tactic(auto)]
+
 ghost use Rattle.std.specs.Prelude.{◌≡◌, ◌*◌, [], length};
 ghost use Rattle.lists.specs.Tests.{cond};
 ghost use Rattle.lists.specs.Pieces.{piece};
@@ -11,7 +13,7 @@ use queue::Lookup;
 
 // Which version of an ISN's record ended transactions left: the store's, the image of the entry at a place of the hold queue, or none, where an
 // open transaction added it.
-#[derive(Drop)]
+#[derive(Clone, Copy)]
 pub enum Version {
     Stored,
     Imaged(usize),
@@ -20,7 +22,7 @@ pub enum Version {
 
 // Where a record lies: in the image buffer or in the store, from where on, and how many bytes. No bytes where there is no record.
 #[repr(C)]
-#[derive(Drop)]
+#[derive(Clone, Copy)]
 pub struct Place {
     pub start: usize,
     pub length: usize,

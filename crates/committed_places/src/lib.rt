@@ -1,5 +1,7 @@
 // The whole record of a file and an ISN as ended transactions left it, as a part of what is lent, uncopied (document 02, No. 8). It is no call: it has
 // no user and no clock, and changes nothing. There are no bytes where L1 with option `C` gets 11, 12, 17 or 113.
+#![tactic(auto)]
+
 ghost use Rattle.std.specs.Prelude.{◌≡◌, ◌+◌, ◌*◌, ◌≤◌, length};
 ghost use Rattle.lists.specs.Tests.{cond};
 ghost use Rattle.records.specs.Records.{record_length, slot_offset};

@@ -1,1 +1,2 @@
 // The nucleus as a caller has it, with the hold queue as a list of entries: definitions, and no code.
+#![tactic(auto)]

@@ -1,5 +1,6 @@
 // A definition (document 01, 'Files and their definition'): which files there are, and the fields of each.
 // A definition is a value of fixed size. Of each array only the first `count` places are in use; what the others hold means nothing.
+#![tactic(auto)]
 
 ghost use Rattle.std.specs.Prelude.{◌≡◌};
 ghost use Rattle.definition.specs.Table.{no_field, no_file, no_definition, field_at, file_or_none, field_count, file_count, same_name};
@@ -26,7 +27,7 @@ pub const MAX_UNPACKED: u8 = 29;
 pub const MAX_PACKED: u8 = 15;
 
 // Document 01's `A`, `B`, `U` and `P`.
-#[derive(Drop)]
+#[derive(Clone, Copy)]
 pub enum Format {
     Alphanumeric,
     Binary,
@@ -35,7 +36,7 @@ pub enum Format {
 }
 
 // The option of a field: document 01's blank, `D` and `U`.
-#[derive(Drop)]
+#[derive(Clone, Copy)]
 pub enum FieldOption {
     Plain,
     Descriptor,
@@ -43,13 +44,13 @@ pub enum FieldOption {
 }
 
 // The two characters of a field's name.
-#[derive(Drop)]
+#[derive(Clone, Copy)]
 pub struct Name {
     pub first: u8,
     pub second: u8,
 }
 
-#[derive(Drop)]
+#[derive(Clone, Copy)]
 pub struct Field {
     pub name: Name,
     pub length: u8,
@@ -57,7 +58,7 @@ pub struct Field {
     pub option: FieldOption,
 }
 
-#[derive(Drop)]
+#[derive(Clone, Copy)]
 pub struct File {
     pub number: u8,
     pub max_isn: u16,
@@ -65,7 +66,7 @@ pub struct File {
     pub fields: [Field; MAX_FIELDS],
 }
 
-#[derive(Drop)]
+#[derive(Clone, Copy)]
 pub struct Definition {
     pub count: u8,
     pub files: [File; MAX_FILES],

@@ -1,5 +1,7 @@
 // E1 empties an ISN (document 01). It needs the user's hold; option `H` takes it. Before the first change of an entry the record is kept as its
 // image.
+#![tactic(auto)]
+
 ghost use Rattle.std.specs.Prelude.{◌≡◌};
 ghost use Rattle.shares.specs.Chains.{e1_cause};
 ghost use Rattle.shares.specs.Outcomes.{erased_part, changed_done, changed_queue, changed_images};

@@ -1,4 +1,6 @@
 // Whether the bytes of a value are allowed in a field, by the field's format: "a digit or sign not allowed" (55), said the other way.
+#![tactic(auto)]
+
 ghost use Rattle.std.specs.Prelude.{◌≡◌, ◌||◌};
 ghost use Rattle.lists.specs.Folds.{all};
 ghost use Rattle.digits.specs.Digits.{unpacked_digit, digit, positive_sign, negative_sign, halves, allowed};

@@ -1,5 +1,7 @@
 // One call with the hold queue as a caller has it, a lent list of entries. The call itself works on words, one for each entry: the entries go out
 // into words, and what the call leaves of these comes back.
+#![tactic(auto)]
+
 ghost use Rattle.std.specs.Prelude.{◌≡◌, ◌≤◌, length};
 ghost use Rattle.database.specs.Database.{database, fitting, reply, direct_call, direct_place};
 ghost use Rattle.nucleus.specs.Nucleus.{nucleus, result};

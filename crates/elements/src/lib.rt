@@ -1,6 +1,8 @@
 // The format buffer: "names divided by commas, ended by a period, nothing after, at least one name" (document 01), or the period alone, which
 // names no field (document 02, No. 5). An element is a name of two bytes and the byte after it, so elements begin at the indices 0, 3, 6, ..
 // Any bytes may come in, and a field may be named any number of times: nothing here grows with the buffer.
+#![tactic(auto)]
+
 ghost use Rattle.std.specs.Prelude.{◌≡◌};
 ghost use Rattle.elements.specs.Elements.{form, period_alone, field_named, names_valid, format_valid, element, named_twice, length_of, needed_within};
 
@@ -15,7 +17,7 @@ const PERIOD: u8 = b'.';
 pub const ELEMENT: usize = 3;
 
 // The bytes that the named fields take together, where they fit into a given room.
-#[derive(Drop)]
+#[derive(Clone, Copy)]
 pub enum Needed {
     Fits(usize),
     TooLong,

@@ -1,4 +1,6 @@
 // ET: a transaction ends, and its changes stay. PE, which may come before it: the transaction is ready, and waits for ET or BT.
+#![tactic(auto)]
+
 ghost use Rattle.std.specs.Prelude.{◌+◌, ◌≤◌, min, ◌≡◌, eqb, length};
 ghost use Rattle.std.proofs.lemmas.List.Edits.{sets};
 ghost use Rattle.lists.specs.Tests.{cond};

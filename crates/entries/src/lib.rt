@@ -1,10 +1,12 @@
 // An entry of the hold queue, and the word that it lies in. Only this crate knows how; every other goes by `pack` and `unpack`.
+#![tactic(auto)]
+
 ghost use Rattle.std.specs.Prelude.{◌≡◌, ◌<◌};
 ghost use Rattle.entries.specs.Entries.{bit, pack_of, unpack_of};
 
 // Who holds an ISN of a file, and whether that changed it.
 #[repr(C)]
-#[derive(Drop)]
+#[derive(Clone, Copy)]
 pub struct Entry {
     pub user: u8,
     pub file: u8,

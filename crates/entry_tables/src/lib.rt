@@ -1,4 +1,6 @@
 // Whether the entries of the hold queue are well made (document 01, below the table of responses): their ISNs are judged by a table that is made once.
+#![tactic(auto)]
+
 ghost use Rattle.std.specs.Prelude.{◌≡◌, length, get_or};
 ghost use Rattle.lists.specs.Tests.{within};
 ghost use Rattle.lists.specs.Folds.{all};

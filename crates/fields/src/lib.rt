@@ -1,5 +1,7 @@
 // Moving values between a record and a record buffer, by the names of a format buffer: what L1 and L4 write, what A1, N1 and N2 store.
 // `content` is the bytes of one record; to be written, it is lent as a part of the store that starts in its middle.
+#![tactic(auto)]
+
 ghost use Rattle.std.specs.Prelude.{◌≡◌, ◌+◌, ◌≤◌, length, drop};
 ghost use Rattle.std.proofs.lemmas.List.Edits.{sets};
 ghost use Rattle.lists.specs.Tests.{cond};
@@ -11,7 +13,7 @@ use elements::{ELEMENT, Needed};
 use records::Found;
 
 // Where a field lies in its record, and what lies there.
-#[derive(Drop)]
+#[derive(Clone, Copy)]
 struct Span {
     start: usize,
     length: usize,

@@ -1,4 +1,6 @@
 // Commands about a file (document 01: HI to N2), on that file and its part of the store.
+#![tactic(auto)]
+
 ghost use Rattle.std.specs.Prelude.{◌≡◌};
 ghost use Rattle.file_commands.specs.FileCommands.{left, on_file};
 

@@ -1,4 +1,6 @@
 // Whether one file of a kept definition breaks a rule of document 01: any value, also one that nobody read from bytes.
+#![tactic(auto)]
+
 ghost use Rattle.std.specs.Prelude.{◌≡◌, ◌&&◌, leb};
 ghost use Rattle.lists.specs.Tests.{within};
 ghost use Rattle.lists.specs.Folds.{sound};

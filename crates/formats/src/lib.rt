@@ -1,5 +1,7 @@
 // The format buffer's rows of the response table (document 01), for the five commands that read one: whether a format buffer and the record
 // buffer beside it serve. Both are seen whole.
+#![tactic(auto)]
+
 ghost use Rattle.std.specs.Prelude.{◌≡◌, ◌∷◌};
 ghost use Rattle.nucleus.specs.Rows.{first_cause};
 ghost use Rattle.shares.specs.Shares.{verdict};

@@ -1,4 +1,6 @@
 // What is let go is handed over (document 02, No. 1: "the first in line gets the hold"), and the back-out that its user did not ask for.
+#![tactic(auto)]
+
 ghost use Rattle.std.specs.Prelude.{List, ◌≡◌, ℕ, ◌-◌, ◌<◌, length, get_or, set};
 ghost use Rattle.layout.specs.Layout.{place, file_found};
 ghost use Rattle.store.specs.Store.{has_record};
@@ -18,7 +20,7 @@ use records::Found;
 use removal::Removal;
 
 // The part of the state that a back-out and a hand-over may change.
-#[derive(Drop)]
+#[derive(Clone, Copy)]
 pub struct Standing {
     pub users: [User; MAX_USERS],
     // The entries in use in the hold queue.

@@ -1,1 +1,2 @@
 // No code: the proof of requirement 3, in specs/.
+#![tactic(auto)]

@@ -1,4 +1,6 @@
 // The back-out's part in the store: what a user's changed entries keep is put back. That his entries go is for `removal`.
+#![tactic(auto)]
+
 ghost use Rattle.std.specs.Prelude.{◌≡◌, map, ℕ, ◌-◌, ◌*◌, ◌≤◌, length, get_or};
 ghost use Rattle.lists.specs.Pieces.{piece, patch};
 ghost use Rattle.definition.specs.Table.{file_count, files_of};

@@ -1,4 +1,6 @@
 // The rows of a hold (document 01): who holds (145, and 20 of document 02, No. 1), is there room (47, 70).
+#![tactic(auto)]
+
 ghost use Rattle.std.specs.Prelude.{not, ◌&&◌, ◌||◌, [], ◌∷◌, ◌≡◌, eqb};
 ghost use Rattle.entries.specs.Entries.{entries};
 ghost use Rattle.queue.specs.Queue.{holder};

@@ -1,4 +1,6 @@
 // Hold: the entry and the transaction's start; HI (document 01).
+#![tactic(auto)]
+
 ghost use Rattle.std.specs.Prelude.{◌+◌, ◌≡◌, ltb};
 ghost use Rattle.lists.specs.Tests.{cond};
 ghost use Rattle.shares.specs.Outcomes.{hi_done, hi_queue};

@@ -1,4 +1,6 @@
 // The house call list (document 01) as `partycall` reads it: the items of a definition table, and the calls.
+#![tactic(auto)]
+
 ghost use Rattle.std.specs.Prelude.{◌≡◌, false, ◌+◌, ◌≤◌, ◌<◌, length};
 ghost use Rattle.house.specs.House.{rest_of_item, byte, pair, four, well_formed, arguments, whole, call_of, sent_as, Lengths};
 
@@ -35,7 +37,7 @@ const MAX_FORMAT: usize = 16;
 const MAX_BUFFER: usize = 35;
 
 // The bytes that follow an item's kind; for kind 0, which ends a table, there are none.
-#[derive(Drop)]
+#[derive(Clone, Copy)]
 pub enum Rest {
     Bytes(usize),
     Unknown,
@@ -53,7 +55,7 @@ pub fn rest_of_item(kind: u8) -> Rest
 }
 
 // A call with its format and record buffer. Where it is not good the rest means nothing.
-#[derive(Drop)]
+#[derive(Clone, Copy)]
 pub struct Sent {
     pub good: bool,
     pub call: Call,

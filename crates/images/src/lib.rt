@@ -1,5 +1,7 @@
 // The before-images beside the hold queue: a lent buffer with one image of `width` bytes for each entry, in the queue's order, that moves with
 // its entry.
+#![tactic(auto)]
+
 ghost use Rattle.std.specs.Prelude.{◌≡◌, ◌*◌, take, drop};
 ghost use Rattle.entries.specs.Entries.{entries};
 ghost use Rattle.images.specs.Images.{counts, has_at, hold_of, taken_by, image_has};

@@ -1,24 +1,26 @@
 // The items of a definition table: each a byte of kind and a body whose length the kind fixes.
+#![tactic(auto)]
+
 ghost use Rattle.std.specs.Prelude.{◌≡◌};
 ghost use Rattle.items.specs.Items.{format_of, option_of, file_item, field_item, item_of};
 
 use definition::{Field, FieldOption, Format, Name};
 
 // What a format byte and an option byte say.
-#[derive(Drop)]
+#[derive(Clone, Copy)]
 pub enum FormatByte {
     Known(Format),
     Unknown,
 }
 
-#[derive(Drop)]
+#[derive(Clone, Copy)]
 pub enum OptionByte {
     Known(FieldOption),
     Unknown,
 }
 
 // One item of a table, or none that is right.
-#[derive(Drop)]
+#[derive(Clone, Copy)]
 pub enum Item {
     File { number: u8, max_isn: u16 },
     Field(Field),

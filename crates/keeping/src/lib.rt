@@ -1,5 +1,7 @@
 // The image of a change (document 01): whoever changes an ISN holds it, and before the first change of his entry the record there is kept as its
 // image.
+#![tactic(auto)]
+
 ghost use Rattle.std.specs.Prelude.{◌≡◌};
 ghost use Rattle.store.specs.Store.{has_record, record_of};
 ghost use Rattle.shares.specs.Chains.{held_share, imaged_queue, imaged_images};

@@ -1,1 +1,2 @@
 // No code: what a program in another language has after any list of calls, in specs/.
+#![tactic(auto)]

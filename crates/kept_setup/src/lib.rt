@@ -1,4 +1,6 @@
 // Set-up with the state as a caller keeps it, and the bytes that a table asks for.
+#![tactic(auto)]
+
 ghost use Rattle.std.specs.Prelude.{List, ◌≡◌, length, ◌*◌, ◌≤◌};
 ghost use Rattle.layout.specs.Layout.{image_length};
 ghost use Rattle.nucleus.specs.Nucleus.{max_capacity};
@@ -11,7 +13,7 @@ use nucleus::MAX_CAPACITY;
 use reading::End;
 
 // What set-up gives: the state, and the response's number.
-#[derive(Drop)]
+#[derive(Clone, Copy)]
 pub struct KeptNucleus {
     pub state: KeptState,
     pub response: u32,

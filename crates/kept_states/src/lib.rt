@@ -1,5 +1,7 @@
 // The state and the control block of a call as a caller in another language keeps them, in plain numbers, and from them to the nucleus's own and
 // back.
+#![tactic(auto)]
+
 ghost use Rattle.std.specs.Prelude.{◌≡◌};
 ghost use Rattle.kept_states.specs.KeptStates.{thawed_table, thawed, frozen, with_kept_table, call_of, answered, left_by};
 
@@ -10,7 +12,7 @@ use nucleus::{Answer, Call, EtData, MAX_USERS, State, User, WaitQueue};
 // What the nucleus keeps between calls: the definition table, of whose files the first `count` are in use; the clock, the users and their ET
 // data, user 1 first; the ISN that N1 last gave in each file; the entries in use in the hold queue; and who waits.
 #[repr(C)]
-#[derive(Drop)]
+#[derive(Clone, Copy)]
 pub struct KeptState {
     pub count: u8,
     pub files: [KeptFile; MAX_FILES],
@@ -24,7 +26,7 @@ pub struct KeptState {
 
 // A call's arguments, which it leaves as they are, and what it answers.
 #[repr(C)]
-#[derive(Drop)]
+#[derive(Clone, Copy)]
 pub struct ControlBlock {
     pub command: [u8; 2],
     pub option: u8,
@@ -40,7 +42,7 @@ pub struct ControlBlock {
 }
 
 // What a call leaves of both, and the response's number.
-#[derive(Drop)]
+#[derive(Clone, Copy)]
 pub struct Left {
     pub state: KeptState,
     pub block: ControlBlock,

@@ -1,5 +1,7 @@
 // A definition table as a caller in another language keeps it: plain numbers, a byte for each format and each option. From it to the files of a
 // definition and back.
+#![tactic(auto)]
+
 ghost use Rattle.std.specs.Prelude.{min, ◌≡◌, map};
 ghost use Rattle.kept_tables.specs.KeptTables.{format_numbered, option_numbered, format_number, option_number, thawed_field, thawed_file, thawed_files, frozen_field, frozen_file, bytes_known, fields_known, files_known};
 
@@ -7,7 +9,7 @@ use definition::{Field, FieldOption, File, Format, MAX_FIELDS, MAX_FILES, Name};
 
 // A field: the two characters of its name, its length, and its format and option by number.
 #[repr(C)]
-#[derive(Drop)]
+#[derive(Clone, Copy)]
 pub struct KeptField {
     pub first: u8,
     pub second: u8,
@@ -18,7 +20,7 @@ pub struct KeptField {
 
 // A file. Of its fields the first `count` are in use.
 #[repr(C)]
-#[derive(Drop)]
+#[derive(Clone, Copy)]
 pub struct KeptFile {
     pub number: u8,
     pub count: u8,

@@ -1,5 +1,7 @@
 // Where the files of a table lie in the store, and their places by number. Every size fits: of any kept definition the store has less than 2^33
 // bytes.
+#![tactic(auto)]
+
 ghost use Rattle.std.specs.Prelude.{◌≡◌, max};
 ghost use Rattle.records.specs.Records.{file_size};
 ghost use Rattle.layout.specs.Layout.{file_offset, store_size, image_length, place};

@@ -1,4 +1,6 @@
 // What `partycall` prints for a call (document 01, 'The house call list'): a line, in a lent buffer.
+#![tactic(auto)]
+
 ghost use Rattle.std.specs.Prelude.{◌≡◌, ◌&&◌, not, ◌∷◌, ◌++◌, ◌+◌, ◌*◌, ◌≤◌, ◌<◌, eqb, length};
 ghost use Rattle.std.proofs.Math.Option.{some};
 ghost use Rattle.nucleus.specs.Commands.{direct_commands, command_of};

@@ -1,4 +1,6 @@
 // A number among others.
+#![tactic(auto)]
+
 ghost use Rattle.std.specs.Prelude.{◌≡◌, eqb};
 ghost use Rattle.lists.specs.Folds.{any};
 

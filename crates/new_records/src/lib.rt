@@ -1,4 +1,6 @@
 // The record that N1 or N2 adds, made in a place of its own before it is judged (document 01): "unnamed fields are null".
+#![tactic(auto)]
+
 ghost use Rattle.std.specs.Prelude.{◌≡◌, length};
 ghost use Rattle.fields.specs.Fields.{write_fields};
 ghost use Rattle.nulls.specs.Nulls.{null_record};

@@ -1,5 +1,7 @@
 // The nucleus (document 01): what it keeps between calls, a call, and what a call answers. What a call does is said in specs/; the crates above
 // have the code that is proved to do it.
+#![tactic(auto)]
+
 ghost use Rattle.std.specs.Prelude.{◌≡◌};
 ghost use Rattle.nucleus.specs.Users.{opening};
 
@@ -16,7 +18,7 @@ pub const MAX_ET_DATA: usize = 64;
 pub const MAX_SEQUENCE: u32 = 4294967295;
 
 // The thirteen commands in the order of the table of commands, and behind them the later ones.
-#[derive(Drop)]
+#[derive(Clone, Copy)]
 pub enum Command {
     Hi,
     Ri,
@@ -59,7 +61,7 @@ pub const COMMITTED: u8 = b'C';
 pub const WAIT: u8 = b'W';
 
 // A call's arguments, but for its two buffers.
-#[derive(Drop)]
+#[derive(Clone, Copy)]
 pub struct Call {
     pub command: [u8; 2],
     pub option: u8,
@@ -72,7 +74,7 @@ pub struct Call {
 }
 
 // The causes of document 01's response table, in its order; `number` in specs/Responses.antt gives the number of each.
-#[derive(Drop)]
+#[derive(Clone, Copy)]
 pub enum Response {
     Good,
     DefinitionInvalid,
@@ -102,7 +104,7 @@ pub enum Response {
     ValueTaken,
 }
 
-#[derive(Drop)]
+#[derive(Clone, Copy)]
 pub struct Answer {
     pub response: Response,
     pub isn: u16,
@@ -113,7 +115,7 @@ pub struct Answer {
 // All that is kept for a user's transaction: whether he is in one, the clock at which it began, and whether PE set it ready, so that it waits for
 // ET or BT alone.
 #[repr(C)]
-#[derive(Drop)]
+#[derive(Clone, Copy)]
 pub struct Transaction {
     pub begun: u32,
     pub active: bool,
@@ -122,7 +124,7 @@ pub struct Transaction {
 
 // A user's session and transaction. What belongs to an ended session or transaction keeps its last values and decides nothing.
 #[repr(C)]
-#[derive(Drop)]
+#[derive(Clone, Copy)]
 pub struct User {
     pub sequence: u32,
     pub transaction: Transaction,
@@ -163,7 +165,7 @@ impl User {
 
 // A user's ET data: the first `length` bytes.
 #[repr(C)]
-#[derive(Drop)]
+#[derive(Clone, Copy)]
 pub struct EtData {
     pub length: u8,
     pub bytes: [u8; MAX_ET_DATA],
@@ -172,14 +174,14 @@ pub struct EtData {
 // Who waits for which record, oldest first (document 02, No. 1: the lines of all records in one): a small hold queue of its own, with a place for
 // each user. An entry of it is a user, a file and an ISN; its `changed` says that he waits by L4, and not by HI.
 #[repr(C)]
-#[derive(Drop)]
+#[derive(Clone, Copy)]
 pub struct WaitQueue {
     pub places: [u64; MAX_USERS],
     // The places in use.
     pub waiting: usize,
 }
 
-#[derive(Drop)]
+#[derive(Clone, Copy)]
 pub struct State {
     pub definition: Definition,
     pub clock: u32,

@@ -1,4 +1,6 @@
 // The options named for each command (document 01, the commands).
+#![tactic(auto)]
+
 ghost use Rattle.std.specs.Prelude.{◌&&◌, ◌≡◌, eqb};
 ghost use Rattle.nucleus.specs.Commands.{one_of, reading_values, reading_committed, changing_held, may_wait, has_option, option_I, option_W};
 ghost use Rattle.options.specs.Options.{opening_only};

@@ -1,5 +1,7 @@
 // The clock (document 01, 'One call'): "each user, rising, whose transaction began more than his time limit ago is backed out and marked overdue".
 // Document 02, No. 1: what each lets go is handed over before the next user's time is looked at.
+#![tactic(auto)]
+
 ghost use Rattle.std.specs.Prelude.{true, ◌≡◌, List, ℕ};
 ghost use Rattle.nucleus.specs.Users.{with_overdue};
 ghost use Rattle.nucleus.specs.Nucleus.{max_users, change_user};

@@ -1,5 +1,7 @@
 // The loop of `partycall` (document 01, 'The house call list'): a definition table and then one call after another are read, and for each call its
 // line is printed. What has to be decided is decided below; here it is read and written. Nothing is held but the table and one call.
+#![tactic(auto)]
+
 ghost use Rattle.std.specs.Prelude.{◌≤◌, length};
 ghost use Rattle.lines.specs.Lines.{Within};
 
@@ -21,7 +23,7 @@ const IMAGES: usize = 32768;
 const LINE: usize = 155;
 
 // The state, and how many calls may come still. No list ends by that count, but a loop has to end, and nothing says that the input does.
-#[derive(Drop)]
+#[derive(Clone, Copy)]
 struct Turn {
     left: u64,
     state: State,

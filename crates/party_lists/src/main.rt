@@ -1,4 +1,6 @@
 // Prints for each file that it is started with the name, and then what `partycall` prints for it.
+#![tactic(auto)]
+
 use libc::STDOUT_FILENO;
 
 // The list that an argument names, or why it cannot be read.

@@ -1,5 +1,7 @@
 // The hold queue: a lent slice with one entry in each word, oldest first. The first `count` words are in use; a count past the slice's
 // length counts as its length.
+#![tactic(auto)]
+
 ghost use Rattle.std.specs.Prelude.{◌≡◌};
 ghost use Rattle.entries.specs.Entries.{is_of, entries};
 ghost use Rattle.queue.specs.Queue.{holder, held_by, append};
@@ -7,7 +9,7 @@ ghost use Rattle.queue.specs.Queue.{holder, held_by, append};
 use entries::Entry;
 
 // What looking up a file and an ISN finds: the entry and its place, or nobody.
-#[derive(Drop)]
+#[derive(Clone, Copy)]
 pub enum Lookup {
     Held(usize, Entry),
     Free,

@@ -1,4 +1,6 @@
 // Reading a definition table: a row of items, each a byte of kind and a body whose length the kind fixes.
+#![tactic(auto)]
+
 ghost use Rattle.std.specs.Prelude.{◌≡◌, true};
 ghost use Rattle.reading.specs.Grammar.{room_for_file, room_for_field, add_file, add_field, broken, read_table};
 
@@ -6,14 +8,14 @@ use definition::{Definition, Field, MAX_FIELDS, MAX_FILES};
 use items::Item;
 
 // Where a table ends in the bytes that it was read from: the index after its last item.
-#[derive(Drop)]
+#[derive(Clone, Copy)]
 pub enum End {
     At(usize),
     Broken,
 }
 
 // A table that was read. Where it is broken the definition has no file.
-#[derive(Drop)]
+#[derive(Clone, Copy)]
 pub struct Reading {
     pub end: End,
     pub definition: Definition,

@@ -1,4 +1,6 @@
 // Where the fields of a record and the slots of a file lie. Every size fits: of any kept file a record has at most 16 * 255 bytes.
+#![tactic(auto)]
+
 ghost use Rattle.std.specs.Prelude.{◌≡◌};
 ghost use Rattle.definition.specs.Table.{field_at};
 ghost use Rattle.records.specs.Records.{field_length, field_offset, record_length, slot_length, slot_offset};
@@ -6,7 +8,7 @@ ghost use Rattle.records.specs.Records.{field_length, field_offset, record_lengt
 use definition::{File, MAX_FIELDS};
 
 // A place that was sought: of a field in its file, or of a file in its table.
-#[derive(Drop)]
+#[derive(Clone, Copy)]
 pub enum Found {
     At(usize),
     Nowhere,

@@ -1,4 +1,6 @@
 // Entries that go, in one function; the back-out; a transaction that ends.
+#![tactic(auto)]
+
 ghost use Rattle.std.specs.Prelude.{◌≡◌};
 ghost use Rattle.removal.specs.Removal.{remove_queue, remove_images, remove_count};
 ghost use Rattle.removal.specs.declared.Removal.TheVariants.{All};

@@ -1,4 +1,6 @@
 // RI: entries that are not changed go out of hold.
+#![tactic(auto)]
+
 ghost use Rattle.std.specs.Prelude.{◌≡◌};
 ghost use Rattle.nucleus.specs.Responses.{good};
 ghost use Rattle.shares.specs.Shares.{share_with_count, done};

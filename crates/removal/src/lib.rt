@@ -1,4 +1,6 @@
 // Entries leave the hold queue: what stays moves to the front, each entry with its image.
+#![tactic(auto)]
+
 ghost use Rattle.std.specs.Prelude.{◌≡◌, ◌+◌, ◌*◌, ◌≤◌, ◌<◌, length, drop, get_or, set};
 ghost use Rattle.std.proofs.Math.Seq.{paste};
 ghost use Rattle.std.proofs.lemmas.List.Edits.{sets};
@@ -7,7 +9,7 @@ ghost use Rattle.removal.specs.Removal.{goes, remove_queue, remove_images, remov
 use entries::Entry;
 
 // Which entries a removal takes.
-#[derive(Drop)]
+#[derive(Clone, Copy)]
 pub enum Removal {
     // The one of a file and ISN.
     One { file: u8, isn: u16 },

@@ -1,5 +1,7 @@
 // Whether a hold queue has a file and ISN in two entries. A table with a bit for each makes it quick: an entry is looked for among those before
 // it only where its bit is set.
+#![tactic(auto)]
+
 ghost use Rattle.std.specs.Prelude.{◌≡◌, true, ◌<◌};
 ghost use Rattle.lists.specs.Folds.{any};
 ghost use Rattle.entries.specs.Entries.{is_of, entries};

@@ -1,4 +1,6 @@
 // The number of a response (document 01, the response table, and the requests of document 02).
+#![tactic(auto)]
+
 ghost use Rattle.std.specs.Prelude.{◌≡◌};
 ghost use Rattle.nucleus.specs.Responses.{number};
 

@@ -1,5 +1,7 @@
 // L1 reads; L4 holds and reads (document 01). What is read comes as a part of the store, or with option `C` of L1 (document 02, No. 8) of the image
 // buffer where an open transaction changed it.
+#![tactic(auto)]
+
 ghost use Rattle.std.specs.Prelude.{◌≡◌, ◌∷◌, ◌≤◌, length};
 ghost use Rattle.elements.specs.Elements.{length_needed};
 ghost use Rattle.fields.specs.Fields.{read_fields};
@@ -17,7 +19,7 @@ use search::Occupied;
 use shares::{Done, Share, Verdict};
 
 // The ISN to read, or the cause that refuses it.
-#[derive(Drop)]
+#[derive(Clone, Copy)]
 enum Target {
     At(u16),
     Refused(Response),

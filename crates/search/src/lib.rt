@@ -1,4 +1,6 @@
 // What is sought in the part of the store that belongs to one file: the lowest record from an ISN on, and a value in another record.
+#![tactic(auto)]
+
 ghost use Rattle.std.specs.Prelude.{◌≡◌, ◌+◌, ◌*◌, ◌≤◌, ◌<◌, length};
 ghost use Rattle.lists.specs.Folds.{any};
 ghost use Rattle.lists.specs.Numbers.{from_to};
@@ -8,7 +10,7 @@ ghost use Rattle.search.specs.Search.{first_of, held, has_field, lowest, elsewhe
 use definition::File;
 
 // The ISN of a record that was sought.
-#[derive(Drop)]
+#[derive(Clone, Copy)]
 pub enum Occupied {
     At(u16),
     Nowhere,

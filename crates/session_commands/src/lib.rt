@@ -1,4 +1,6 @@
 // The commands that open and close a session: OP, CL.
+#![tactic(auto)]
+
 ghost use Rattle.std.specs.Prelude.{◌≡◌};
 ghost use Rattle.nucleus.specs.Users.{or_default, set_session};
 ghost use Rattle.shares.specs.Outcomes.{op_done, cl_done};

@@ -1,4 +1,6 @@
 // Sessions: one that opens by itself, who is due, the clock's mark, and a transaction's start.
+#![tactic(auto)]
+
 ghost use Rattle.std.specs.Prelude.{◌≡◌};
 ghost use Rattle.nucleus.specs.Users.{opened, fresh_user, is_due, with_overdue, started};
 

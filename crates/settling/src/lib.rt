@@ -1,4 +1,6 @@
 // The line after a command (document 02, No. 1): who is answered 20 joins it, and what RI, ET or BT let go is handed over.
+#![tactic(auto)]
+
 ghost use Rattle.std.specs.Prelude.{List, ◌≡◌, ℕ, length};
 ghost use Rattle.std.proofs.lemmas.List.Edits.{sets};
 ghost use Rattle.entries.specs.Entries.{entries};

@@ -1,4 +1,6 @@
 // Set-up (document 01, 'Files and their definition'): a definition table is read, and the lent store made empty for it.
+#![tactic(auto)]
+
 ghost use Rattle.std.specs.Prelude.{◌≡◌, List, ℕ, ◌≤◌, ◌<◌, length};
 ghost use Rattle.lists.specs.Numbers.{numbers};
 ghost use Rattle.definition.specs.Table.{file_at, file_count, no_definition};
@@ -13,7 +15,7 @@ use nucleus::{EtData, MAX_ET_DATA, MAX_USERS, Response, State, WaitQueue};
 use reading::End;
 
 // What set-up answers, and the state that it gives. Where it refuses, the state has no table, so that every call on it answers 12.
-#[derive(Drop)]
+#[derive(Clone, Copy)]
 pub struct Nucleus {
     pub response: Response,
     pub state: State,

@@ -1,4 +1,6 @@
 // What a command is handed of the state, and what it gives back: only the outermost function has the whole state.
+#![tactic(auto)]
+
 ghost use Rattle.std.specs.Prelude.{◌≡◌};
 ghost use Rattle.nucleus.specs.Responses.{refused, good};
 ghost use Rattle.shares.specs.Shares.{done};
@@ -6,7 +8,7 @@ ghost use Rattle.shares.specs.Shares.{done};
 use nucleus::{Answer, EtData, Response, User};
 
 // The parts of the state that a command reads and may change.
-#[derive(Drop)]
+#[derive(Clone, Copy)]
 pub struct Share {
     // The caller.
     pub user: User,
@@ -20,14 +22,14 @@ pub struct Share {
 }
 
 // What a command answers, and its share afterwards.
-#[derive(Drop)]
+#[derive(Clone, Copy)]
 pub struct Done {
     pub answer: Answer,
     pub share: Share,
 }
 
 // What some rows of the response table say: none of them holds, or the first that does refuses.
-#[derive(Drop)]
+#[derive(Clone, Copy)]
 pub enum Verdict {
     Passed,
     Refused(Response),

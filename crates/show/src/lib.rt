@@ -1,4 +1,6 @@
 // What the programs that show a crate's functions print with, all to standard output.
+#![tactic(auto)]
+
 use libc::STDOUT_FILENO;
 
 fn wide(b: u8) -> u64 {

@@ -1,5 +1,7 @@
 // Shows what `elements` makes of format buffers, and how `fields` moves values by them into a record and out again. Files are read from
 // definition tables of document 01 and of the Command Reference. The gate holds what is printed to the file stdout.
+#![tactic(auto)]
+
 use definition::File;
 use elements::Needed;
 

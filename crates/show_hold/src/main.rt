@@ -1,6 +1,8 @@
 // Shows how hold queue, images and store go together, on document 01's file of the house call list: RC and HH, image length 3, highest ISN 3.
 // User 2 holds ISN 3; user 1 holds ISN 1, where a record is, and ISN 2, where none is, changes both, and is backed out. The gate holds what is
 // printed to the file stdout.
+#![tactic(auto)]
+
 use definition::Definition;
 use entries::Entry;
 use queue::Lookup;

@@ -1,6 +1,8 @@
 // Shows what `store` does with the part of a file: document 01's file of the house call list, RC and HH, whose slots have four bytes, and whose
 // highest ISN is 3. The part has two bytes more than the file. Each line has the part after a call, or what a call answers. The gate holds what
 // is printed to the file stdout.
+#![tactic(auto)]
+
 use definition::File;
 use search::Occupied;
 

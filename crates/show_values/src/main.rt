@@ -1,5 +1,7 @@
 // Shows what `values` gives on packed values of the Command Reference ('Packed Value Signs') and of documents 01 and 02: each value in hexadecimal,
 // and behind it its stored form, or 55 where it is not allowed. The gate holds what is printed to the file stdout.
+#![tactic(auto)]
+
 use definition::Format;
 
 fn show_packed(value: &[u8]) {

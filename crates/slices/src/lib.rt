@@ -1,4 +1,6 @@
 // Small functions over lent slices and their lengths, for any slices and numbers.
+#![tactic(auto)]
+
 ghost use Rattle.std.specs.Prelude.{◌≡◌, ◌+◌, ◌*◌, ◌≤◌, ◌<◌, min, length, leb};
 ghost use Rattle.lists.specs.Tests.{eqbs};
 ghost use Rattle.lists.specs.Pieces.{piece};

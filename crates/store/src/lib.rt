@@ -1,6 +1,8 @@
 // The store (document 01, 'Store'): one slot for each ISN, a byte that says whether there is a record, and the record.
 // Callers lend the part of the store that belongs to one file. What a part lacks, being too short, has no record and is not written;
 // what it has past the file's last slot is not touched.
+#![tactic(auto)]
+
 ghost use Rattle.std.specs.Prelude.{◌≡◌, ◌+◌, ◌*◌, ◌≤◌, ◌<◌, ◌∷◌, length};
 ghost use Rattle.lists.specs.Tests.{within};
 ghost use Rattle.lists.specs.Numbers.{from_to};

@@ -1,4 +1,6 @@
 // The nucleus for programs in other languages: functions over plain numbers, structs of them, and lent slices, each for any arguments.
+#![tactic(auto)]
+
 ghost use Rattle.std.specs.Prelude.{◌≡◌};
 ghost use Rattle.direct_calls.specs.Kept.{left, kept_reply, kept_call};
 ghost use Rattle.direct_calls.specs.Places.{kept_place};

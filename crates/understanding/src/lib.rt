@@ -1,5 +1,7 @@
 // What a call's own arguments say (document 01, 'Responses'): the command and the user, 22 and 72; and 113 of the ISN that a call about a file
 // gives.
+#![tactic(auto)]
+
 ghost use Rattle.std.specs.Prelude.{◌≡◌};
 ghost use Rattle.nucleus.specs.Commands.{direct_commands, one_of, at_given_isn};
 ghost use Rattle.understanding.specs.Understanding.{understood_as, isn_refused};
@@ -8,7 +10,7 @@ use codes::Decoded;
 use nucleus::{Call, Command, MAX_USERS, Response};
 
 // What the command and the user of a call are taken for.
-#[derive(Drop)]
+#[derive(Clone, Copy)]
 pub enum Understood {
     As(Command),
     Refused(Response),

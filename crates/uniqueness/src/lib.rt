@@ -1,5 +1,7 @@
 // Unique values (document 01, the row of response 198): a value is taken where another record of the file has it in that field, or an image
 // of another user's changed entry does, so that a value that was given up stays taken until its transaction ends.
+#![tactic(auto)]
+
 ghost use Rattle.std.specs.Prelude.{◌≡◌, eqb};
 ghost use Rattle.lists.specs.Folds.{any};
 ghost use Rattle.definition.specs.Table.{field_at, is_unique};

@@ -1,5 +1,7 @@
 // A1's rows (document 01): those of a record that is to be made, those of a change, and 198, with the record that it makes judged before it is in
 // the store.
+#![tactic(auto)]
+
 ghost use Rattle.std.specs.Prelude.{◌≡◌, true, ◌≤◌, length};
 ghost use Rattle.records.specs.Records.{record_length};
 ghost use Rattle.fields.specs.Fields.{write_fields};

@@ -1,5 +1,7 @@
 // A1 replaces the named fields of a record (document 01). It needs the user's hold; option `H` takes it. Before the first change of an entry the
 // record is kept as its image.
+#![tactic(auto)]
+
 ghost use Rattle.std.specs.Prelude.{◌≡◌};
 ghost use Rattle.shares.specs.Chains.{replaced, a1_cause};
 ghost use Rattle.shares.specs.Outcomes.{put_part, changed_done, changed_queue, changed_images};

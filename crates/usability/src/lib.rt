@@ -1,4 +1,6 @@
 // Whether a call may use the kept state and what it is lent: document 01's 11 and 12, and 12 before 11 where the kept table is invalid.
+#![tactic(auto)]
+
 ghost use Rattle.std.specs.Prelude.{◌≡◌};
 ghost use Rattle.nucleus.specs.Nucleus.{nucleus};
 ghost use Rattle.nucleus.specs.WellMade.{too_short};

@@ -1,4 +1,6 @@
 // RE: the ET data that a user left are read.
+#![tactic(auto)]
+
 ghost use Rattle.std.specs.Prelude.{◌≤◌, ◌≡◌, length};
 ghost use Rattle.shares.specs.Chains.{re_buffer};
 ghost use Rattle.shares.specs.Outcomes.{re_done, re_after};

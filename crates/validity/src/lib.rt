@@ -1,4 +1,6 @@
 // Whether a kept definition breaks a rule of document 01: any value, also one that nobody read from bytes.
+#![tactic(auto)]
+
 ghost use Rattle.std.specs.Prelude.{◌≡◌};
 ghost use Rattle.lists.specs.Folds.{sound};
 ghost use Rattle.definition.specs.Table.{files_of, numbered_alike};

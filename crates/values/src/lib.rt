@@ -1,4 +1,6 @@
 // One value of a field, by the field's format: its stored form, and the null value.
+#![tactic(auto)]
+
 ghost use Rattle.std.specs.Prelude.{◌≡◌, eqb, length, replicate};
 ghost use Rattle.lists.specs.Tests.{cond};
 ghost use Rattle.lists.specs.Folds.{any};

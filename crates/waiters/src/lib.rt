@@ -1,4 +1,6 @@
 // The line of those who wait for a record that another holds (document 02, No. 1): who is in it, joining and leaving.
+#![tactic(auto)]
+
 ghost use Rattle.std.specs.Prelude.{◌≡◌};
 ghost use Rattle.lists.specs.Folds.{any};
 ghost use Rattle.entries.specs.Entries.{entries};

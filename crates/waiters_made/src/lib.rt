@@ -1,4 +1,6 @@
 // Whether the line of those who wait is well made (document 02, No. 1: "a waiter has a session and another holds his record").
+#![tactic(auto)]
+
 ghost use Rattle.std.specs.Prelude.{◌≡◌};
 ghost use Rattle.lists.specs.Folds.{all};
 ghost use Rattle.entries.specs.Entries.{entries};

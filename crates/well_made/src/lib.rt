@@ -1,4 +1,6 @@
 // Whether the parts of a kept state are well made (document 01, below the table of responses), each part by itself: users, ET data.
+#![tactic(auto)]
+
 ghost use Rattle.std.specs.Prelude.{◌≡◌};
 ghost use Rattle.lists.specs.Folds.{all};
 ghost use Rattle.nucleus.specs.WellMade.{user_made, data_made};
