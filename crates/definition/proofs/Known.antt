@@ -15,13 +15,13 @@ use Rattle.definition.specs.declared.Field.{Field}
 use Rattle.definition.specs.declared.File.{File}
 use Rattle.definition.specs.declared.Definition.{Definition}
 use Rattle.definition.specs.contracts.Name as Name'
-use Rattle.definition.proofs.Name.TheLaws as Name-laws
+use Rattle.definition.proofs.Name.TheLaws as Name_laws
 use Rattle.definition.specs.contracts.Field as Field'
-use Rattle.definition.proofs.Field.TheLaws as Field-laws
+use Rattle.definition.proofs.Field.TheLaws as Field_laws
 use Rattle.definition.specs.contracts.File as File'
-use Rattle.definition.proofs.File.TheLaws as File-laws
+use Rattle.definition.proofs.File.TheLaws as File_laws
 use Rattle.definition.specs.contracts.Definition as Definition'
-use Rattle.definition.proofs.Definition.TheLaws as Definition-laws
+use Rattle.definition.proofs.Definition.TheLaws as Definition_laws
 
 -- an array's owner knows its length, and of each element what the element's owner would
 each_known : (F : Kind) (P : F.Value → Type 0) → ((x : F.Value) (vs : List Val) → Is F.row (F.into x) vs → P x) → (xs : List F.Value) (us : List Val) → shadow (each F.row.Denot F.row.own_val (map F.into xs) us) → Each P xs

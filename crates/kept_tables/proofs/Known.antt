@@ -9,7 +9,7 @@ use denote.Struct.Laws as Struct
 use Rattle.kept_tables.specs.declared.KeptFile.{KeptFile}
 use Rattle.kept_tables.specs.contracts.KeptField as KeptField'
 use Rattle.kept_tables.specs.contracts.KeptFile as KeptFile'
-use Rattle.kept_tables.proofs.KeptFile.TheLaws as KeptFile-laws
+use Rattle.kept_tables.proofs.KeptFile.TheLaws as KeptFile_laws
 
 pub places : (k : KeptFile) (vs : List Val) → Is KeptFile'.the_row k vs → length k.fields ≡ 16
 places k vs is =

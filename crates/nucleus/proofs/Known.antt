@@ -9,7 +9,7 @@ use denote.Struct.Laws as Struct
 use Rattle.nucleus.specs.Nucleus.{max_et_data}
 use Rattle.nucleus.specs.declared.EtData.{EtData}
 use Rattle.nucleus.specs.contracts.EtData as EtData'
-use Rattle.nucleus.proofs.EtData.TheLaws as EtData-laws
+use Rattle.nucleus.proofs.EtData.TheLaws as EtData_laws
 
 pub data_places : (e : EtData) (vs : List Val) → Is EtData'.the_row e vs → length e.bytes ≡ max_et_data
 data_places e vs is =

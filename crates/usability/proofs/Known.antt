@@ -13,7 +13,7 @@ use Rattle.nucleus.specs.declared.State.{State}
 use Rattle.nucleus.specs.contracts.User as User'
 use Rattle.nucleus.specs.contracts.EtData as EtData'
 use Rattle.nucleus.specs.contracts.State as State'
-use Rattle.nucleus.proofs.State.TheLaws as State-laws
+use Rattle.nucleus.proofs.State.TheLaws as State_laws
 
 pub record StateShape (s : State) : Type 0 where
   pub definition : DefinitionShape s.definition

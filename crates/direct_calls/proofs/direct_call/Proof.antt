@@ -56,29 +56,29 @@ use Rattle.nucleus.specs.declared.Call.{Call}
 use Rattle.entries.specs.declared.Entry.{Entry}
 use Rattle.calls.specs.declared.Outcome.{Outcome}
 use Rattle.nucleus.specs.declared.State.{State}
-use Rattle.nucleus.specs.contracts.Call as Call-type
-use Rattle.nucleus.proofs.Call.TheLaws as Call-laws
-use Rattle.entries.specs.contracts.Entry as Entry-type
-use Rattle.calls.specs.contracts.Outcome as Outcome-type
-use Rattle.calls.proofs.Outcome.TheLaws as Outcome-laws
-use Rattle.nucleus.specs.contracts.State as State-type
-use Rattle.nucleus.proofs.State.TheLaws as State-laws
+use Rattle.nucleus.specs.contracts.Call as Call_type
+use Rattle.nucleus.proofs.Call.TheLaws as Call_laws
+use Rattle.entries.specs.contracts.Entry as Entry_type
+use Rattle.calls.specs.contracts.Outcome as Outcome_type
+use Rattle.calls.proofs.Outcome.TheLaws as Outcome_laws
+use Rattle.nucleus.specs.contracts.State as State_type
+use Rattle.nucleus.proofs.State.TheLaws as State_laws
 use Rattle.direct_calls.specs.contracts.fitting as fits
-use Rattle.direct_calls.proofs.fitting.Symbol as fits-def
+use Rattle.direct_calls.proofs.fitting.Symbol as fits_def
 use Rattle.direct_calls.proofs.fitting.Symbol.{name as #direct_calls·fitting}
-use Rattle.direct_calls.proofs.fitting.Met as fits-thm
-use Rattle.direct_calls.specs.contracts.words_out as words-out
-use Rattle.direct_calls.proofs.words_out.Symbol as words-out-def
+use Rattle.direct_calls.proofs.fitting.Met as fits_thm
+use Rattle.direct_calls.specs.contracts.words_out as words_out
+use Rattle.direct_calls.proofs.words_out.Symbol as words_out_def
 use Rattle.direct_calls.proofs.words_out.Symbol.{name as #direct_calls·words-out}
-use Rattle.direct_calls.proofs.words_out.Met as words-out-thm
+use Rattle.direct_calls.proofs.words_out.Met as words_out_thm
 use Rattle.direct_calls.specs.contracts.on_words as callee
-use Rattle.direct_calls.proofs.on_words.Symbol as callee-def
+use Rattle.direct_calls.proofs.on_words.Symbol as callee_def
 use Rattle.direct_calls.proofs.on_words.Symbol.{name as #direct_calls·on-words}
-use Rattle.direct_calls.proofs.on_words.Met as callee-thm
-use Rattle.direct_calls.specs.contracts.words_in as words-in
-use Rattle.direct_calls.proofs.words_in.Symbol as words-in-def
+use Rattle.direct_calls.proofs.on_words.Met as callee_thm
+use Rattle.direct_calls.specs.contracts.words_in as words_in
+use Rattle.direct_calls.proofs.words_in.Symbol as words_in_def
 use Rattle.direct_calls.proofs.words_in.Symbol.{name as #direct_calls·words-in}
-use Rattle.direct_calls.proofs.words_in.Met as words-in-thm
+use Rattle.direct_calls.proofs.words_in.Met as words_in_thm
 use Rattle.direct_calls.specs.contracts.direct_call.Key.{name as #direct_calls·direct-call}
 use Rattle.direct_calls.specs.contracts.direct_call as f
 use Rattle.direct_calls.proofs.direct_call.Statement as stated

@@ -52,23 +52,23 @@ use Rattle.direct_calls.proofs.Loan.{lend_row, row_back, share_row, unshare_row,
 use Rattle.entries.specs.declared.Entry.{Entry}
 use Rattle.committed.specs.declared.Place.{Place as Result}
 use Rattle.nucleus.specs.declared.State.{State}
-use Rattle.entries.specs.contracts.Entry as Entry-type
-use Rattle.committed.specs.contracts.Place as Result-type
-use Rattle.committed.proofs.Place.TheLaws as Result-laws
-use Rattle.nucleus.specs.contracts.State as State-type
-use Rattle.nucleus.proofs.State.TheLaws as State-laws
+use Rattle.entries.specs.contracts.Entry as Entry_type
+use Rattle.committed.specs.contracts.Place as Result_type
+use Rattle.committed.proofs.Place.TheLaws as Result_laws
+use Rattle.nucleus.specs.contracts.State as State_type
+use Rattle.nucleus.proofs.State.TheLaws as State_laws
 use Rattle.direct_calls.specs.contracts.fitting as fits
-use Rattle.direct_calls.proofs.fitting.Symbol as fits-def
+use Rattle.direct_calls.proofs.fitting.Symbol as fits_def
 use Rattle.direct_calls.proofs.fitting.Symbol.{name as #direct_calls·fitting}
-use Rattle.direct_calls.proofs.fitting.Met as fits-thm
-use Rattle.direct_calls.specs.contracts.words_out as words-out
-use Rattle.direct_calls.proofs.words_out.Symbol as words-out-def
+use Rattle.direct_calls.proofs.fitting.Met as fits_thm
+use Rattle.direct_calls.specs.contracts.words_out as words_out
+use Rattle.direct_calls.proofs.words_out.Symbol as words_out_def
 use Rattle.direct_calls.proofs.words_out.Symbol.{name as #direct_calls·words-out}
-use Rattle.direct_calls.proofs.words_out.Met as words-out-thm
+use Rattle.direct_calls.proofs.words_out.Met as words_out_thm
 use Rattle.direct_calls.specs.contracts.place_on_words as callee
-use Rattle.direct_calls.proofs.place_on_words.Symbol as callee-def
+use Rattle.direct_calls.proofs.place_on_words.Symbol as callee_def
 use Rattle.direct_calls.proofs.place_on_words.Symbol.{name as #direct_calls·place-on-words}
-use Rattle.direct_calls.proofs.place_on_words.Met as callee-thm
+use Rattle.direct_calls.proofs.place_on_words.Met as callee_thm
 use Rattle.direct_calls.specs.contracts.direct_place.Key.{name as #direct_calls·direct-place}
 use Rattle.direct_calls.specs.contracts.direct_place as f
 use Rattle.direct_calls.proofs.direct_place.Statement as stated

@@ -59,11 +59,11 @@ use Rattle.direct_calls.proofs.While.{tests}
 use Rattle.entries.specs.contracts.Entry as T
 use Rattle.entries.proofs.Entry.TheLaws as T'
 use Rattle.entries.specs.contracts.unpack as unpack
-use Rattle.entries.proofs.unpack.Symbol as unpack-def
+use Rattle.entries.proofs.unpack.Symbol as unpack_def
 use Rattle.entries.proofs.unpack.Symbol.{name as #entries·unpack}
-use Rattle.entries.proofs.unpack.Met as unpack-thm
+use Rattle.entries.proofs.unpack.Met as unpack_thm
 use Rattle.direct_calls.specs.contracts.words_in.Key.{name as #direct_calls·words-in}
-use Rattle.direct_calls.specs.contracts.words_in as words-in
+use Rattle.direct_calls.specs.contracts.words_in as words_in
 use Rattle.direct_calls.proofs.words_in.Statement as stated
 use Rattle.direct_calls.proofs.words_in.Code as code
 use Rattle.direct_calls.proofs.words_in.Code.Mir as text

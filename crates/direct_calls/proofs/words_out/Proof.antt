@@ -59,11 +59,11 @@ use Rattle.direct_calls.proofs.While.{tests}
 use Rattle.entries.specs.contracts.Entry as T
 use Rattle.entries.proofs.Entry.TheLaws as T'
 use Rattle.entries.specs.contracts.pack as pack
-use Rattle.entries.proofs.pack.Symbol as pack-def
+use Rattle.entries.proofs.pack.Symbol as pack_def
 use Rattle.entries.proofs.pack.Symbol.{name as #entries·pack}
-use Rattle.entries.proofs.pack.Met as pack-thm
+use Rattle.entries.proofs.pack.Met as pack_thm
 use Rattle.direct_calls.specs.contracts.words_out.Key.{name as #direct_calls·words-out}
-use Rattle.direct_calls.specs.contracts.words_out as words-out
+use Rattle.direct_calls.specs.contracts.words_out as words_out
 use Rattle.direct_calls.proofs.words_out.Statement as stated
 use Rattle.direct_calls.proofs.words_out.Code as code
 use Rattle.direct_calls.proofs.words_out.Code.Mir as text

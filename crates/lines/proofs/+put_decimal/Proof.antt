@@ -11,10 +11,10 @@ use Rattle.lines.specs.Digits.{decimal_one, decimal_more, length_one, length_mor
 use Prim.Native.Nat.{ℕ, ◌+◌, ◌/◌, ◌%◌, ◌<◌}
 use borrow.Fn.Kinds.{In}
 use borrow.Fn.PlainCycle.{Measures, is, falls, and}
-use Rattle.lines.proofs.put_decimal.Reads as put-decimal
-use Rattle.lines.proofs.put_decimal.Kinds as put-decimal-kinds
-use Rattle.lines.proofs.+put_decimal.Lts-put_decimal as put-decimal-lts
-use Rattle.lines.proofs.digit.Reads as digit-reads
+use Rattle.lines.proofs.put_decimal.Reads as put_decimal
+use Rattle.lines.proofs.put_decimal.Kinds as put_decimal_kinds
+use Rattle.lines.proofs.+put_decimal.Lts-put_decimal as put_decimal_lts
+use Rattle.lines.proofs.digit.Reads as digit_reads
 use Rattle.lines.proofs.+put_decimal.{statement}
 use Rattle.lines.proofs.+put_decimal.Tie.{close}
 

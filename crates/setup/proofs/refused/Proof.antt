@@ -3,8 +3,8 @@ use Rattle.setup.proofs.refused.Statement.{statement}
 use Rattle.setup.proofs.refused.Tie as tie
 use Rattle.setup.proofs.refused.Reads as reads
 use Rattle.setup.proofs.refused.Lts as lts
-use Rattle.definition.proofs.no_definition.Reads as no-definition-reads
-use Rattle.setup.proofs.fresh_state.Reads as fresh-state-reads
+use Rattle.definition.proofs.no_definition.Reads as no_definition_reads
+use Rattle.setup.proofs.fresh_state.Reads as fresh_state_reads
 
 no_definition_requires : tie.Need-no-definition-requires
 no_definition_requires c κs = search rules

@@ -46,17 +46,17 @@ use Rattle.kept_states.specs.declared.ControlBlock.{ControlBlock}
 use Rattle.entries.specs.declared.Entry.{Entry}
 use Rattle.kept_states.specs.declared.KeptState.{KeptState}
 use Rattle.kept_states.specs.declared.Left.{Left}
-use Rattle.kept_states.specs.contracts.ControlBlock as ControlBlock-type
-use Rattle.kept_states.proofs.ControlBlock.TheLaws as ControlBlock-laws
-use Rattle.entries.specs.contracts.Entry as Entry-type
-use Rattle.kept_states.specs.contracts.KeptState as KeptState-type
-use Rattle.kept_states.proofs.KeptState.TheLaws as KeptState-laws
-use Rattle.kept_states.specs.contracts.Left as Left-type
-use Rattle.kept_states.proofs.Left.TheLaws as Left-laws
-use Rattle.direct_calls.specs.contracts.kept_call as left-fn
-use Rattle.direct_calls.proofs.kept_call.Symbol as left-def
+use Rattle.kept_states.specs.contracts.ControlBlock as ControlBlock_type
+use Rattle.kept_states.proofs.ControlBlock.TheLaws as ControlBlock_laws
+use Rattle.entries.specs.contracts.Entry as Entry_type
+use Rattle.kept_states.specs.contracts.KeptState as KeptState_type
+use Rattle.kept_states.proofs.KeptState.TheLaws as KeptState_laws
+use Rattle.kept_states.specs.contracts.Left as Left_type
+use Rattle.kept_states.proofs.Left.TheLaws as Left_laws
+use Rattle.direct_calls.specs.contracts.kept_call as left_fn
+use Rattle.direct_calls.proofs.kept_call.Symbol as left_def
 use Rattle.direct_calls.proofs.kept_call.Symbol.{name as #direct_calls·kept-call}
-use Rattle.direct_calls.proofs.kept_call.Met as left-thm
+use Rattle.direct_calls.proofs.kept_call.Met as left_thm
 use Rattle.towungbe.specs.contracts.towungbe_call.Key.{name as #towungbe·towungbe-call}
 use Rattle.towungbe.specs.contracts.towungbe_call as f
 use Rattle.towungbe.proofs.towungbe_call.Statement as stated

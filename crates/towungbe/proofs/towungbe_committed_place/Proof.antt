@@ -44,15 +44,15 @@ use Rattle.direct_calls.specs.Places.{kept_place}
 use Rattle.entries.specs.declared.Entry.{Entry}
 use Rattle.kept_states.specs.declared.KeptState.{KeptState}
 use Rattle.committed.specs.declared.Place.{Place}
-use Rattle.entries.specs.contracts.Entry as Entry-type
-use Rattle.kept_states.specs.contracts.KeptState as KeptState-type
-use Rattle.kept_states.proofs.KeptState.TheLaws as KeptState-laws
-use Rattle.committed.specs.contracts.Place as Place-type
-use Rattle.committed.proofs.Place.TheLaws as Place-laws
-use Rattle.direct_calls.specs.contracts.kept_place as found-fn
-use Rattle.direct_calls.proofs.kept_place.Symbol as Found-def
+use Rattle.entries.specs.contracts.Entry as Entry_type
+use Rattle.kept_states.specs.contracts.KeptState as KeptState_type
+use Rattle.kept_states.proofs.KeptState.TheLaws as KeptState_laws
+use Rattle.committed.specs.contracts.Place as Place_type
+use Rattle.committed.proofs.Place.TheLaws as Place_laws
+use Rattle.direct_calls.specs.contracts.kept_place as found_fn
+use Rattle.direct_calls.proofs.kept_place.Symbol as Found_def
 use Rattle.direct_calls.proofs.kept_place.Symbol.{name as #direct_calls·kept-place}
-use Rattle.direct_calls.proofs.kept_place.Met as found-thm
+use Rattle.direct_calls.proofs.kept_place.Met as found_thm
 use Rattle.towungbe.specs.contracts.towungbe_committed_place.Key.{name as #towungbe·towungbe-committed-place}
 use Rattle.towungbe.specs.contracts.towungbe_committed_place as f
 use Rattle.towungbe.proofs.towungbe_committed_place.Statement as stated

@@ -45,15 +45,15 @@ use Rattle.kept_setup.specs.KeptSetup.{kept_nucleus, kept_made, kept_set_up}
 use Rattle.entries.specs.declared.Entry.{Entry}
 use Rattle.kept_setup.specs.declared.KeptNucleus.{KeptNucleus}
 use Rattle.kept_states.specs.declared.KeptState.{KeptState}
-use Rattle.entries.specs.contracts.Entry as Entry-type
-use Rattle.kept_setup.specs.contracts.KeptNucleus as KeptNucleus-type
-use Rattle.kept_setup.proofs.KeptNucleus.TheLaws as KeptNucleus-laws
-use Rattle.kept_states.specs.contracts.KeptState as KeptState-type
-use Rattle.kept_states.proofs.KeptState.TheLaws as KeptState-laws
-use Rattle.kept_setup.specs.contracts.kept_set_up as made-fn
-use Rattle.kept_setup.proofs.kept_set_up.Symbol as made-def
+use Rattle.entries.specs.contracts.Entry as Entry_type
+use Rattle.kept_setup.specs.contracts.KeptNucleus as KeptNucleus_type
+use Rattle.kept_setup.proofs.KeptNucleus.TheLaws as KeptNucleus_laws
+use Rattle.kept_states.specs.contracts.KeptState as KeptState_type
+use Rattle.kept_states.proofs.KeptState.TheLaws as KeptState_laws
+use Rattle.kept_setup.specs.contracts.kept_set_up as made_fn
+use Rattle.kept_setup.proofs.kept_set_up.Symbol as made_def
 use Rattle.kept_setup.proofs.kept_set_up.Symbol.{name as #kept_setup·kept-set-up}
-use Rattle.kept_setup.proofs.kept_set_up.Met as made-thm
+use Rattle.kept_setup.proofs.kept_set_up.Met as made_thm
 use Rattle.towungbe.specs.contracts.towungbe_set_up.Key.{name as #towungbe·towungbe-set-up}
 use Rattle.towungbe.specs.contracts.towungbe_set_up as f
 use Rattle.towungbe.proofs.towungbe_set_up.Statement as stated
