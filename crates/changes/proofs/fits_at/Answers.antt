@@ -8,23 +8,15 @@ use native.Mathlib.Numerals.{add-one}
 use lib.Dec.{leb}
 use borrow.Author.Tests.{le-leb}
 use Rattle.lists.specs.Parts.{quotient}
-use borrow.Author.Rules.{rules}
-use Rattle.changes.proofs.fits_at.Statement.{statement}
-use Rattle.changes.proofs.fits_at.Tie as tie
+use Rattle.changes.proofs.fits_at.Goals as goal
 
-returns : tie.Need-returns
-returns c =
-    let a = c.before.args in
-    let none : (a.at + 1) * a.width ≡ 0 = rw c.if1.true (mul-zero (a.at + 1)) in
+pub returns-then-width-eq0 : goal.returns-then-width-eq0
+returns-then-width-eq0 c =
+    let a = c.args in
+    let none : (a.at + 1) * a.width ≡ 0 = rw c.if-width-eq0.true (mul-zero (a.at + 1)) in
     sym (le-leb ((a.at + 1) * a.width) a.length (omega arith))
 
-div_result : tie.Need-nonzero-div-result
-div_result c = search rules
-
-returns_2 : tie.Need-returns-2
-returns_2 c =
-    let a = c.before.args in
+pub returns : goal.returns
+returns c =
+    let a = c.args in
     ap (λ (n : ℕ). leb n (a.length / a.width)) (sym (add-one a.at)) ∙ quotient (a.at + 1) a.width a.length (omega arith)
-
-pub fits_at_spec : {M : Type 1} → statement M
-fits_at_spec = tie.close (tie.spec returns div_result returns_2)
