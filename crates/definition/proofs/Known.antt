@@ -1,13 +1,11 @@
 -- Whoever owns a field, a file or a definition knows its shape. In a proof: `file_known _ _ c.good.0` at a function's first parameter.
 -- Assumes nothing.
-use mathlib.Core.Path.{sym, ◌∙◌}
-use mathlib.Core.List.{List, [], ◌∷◌, map}
+use mathlib.Core.List.{List, [], ◌∷◌}
 use mir.Val.{Val}
-use lib.ListN.{length-map}
 use denote.Laws.{Is}
 use denote.Shadow.{shadow}
 use denote.Array.{each}
-use denote.Struct.Field.{Field as Kind}
+use denote.RattleType.{RattleType}
 use denote.Struct.Laws as Struct
 use Rattle.lists.specs.Folds.{Each}
 use Rattle.definition.specs.Shape.{FieldShape, FileShape, DefinitionShape}
@@ -24,10 +22,10 @@ use Rattle.definition.specs.contracts.Definition as Definition'
 use Rattle.definition.proofs.Definition.TheLaws as Definition_laws
 
 -- an array's owner knows its length, and of each element what the element's owner would
-each_known : (F : Kind) (P : F.Value → Type 0) → ((x : F.Value) (vs : List Val) → Is F.row (F.into x) vs → P x) → (xs : List F.Value) (us : List Val) → shadow (each F.row.Denot F.row.own_val (map F.into xs) us) → Each P xs
-each_known F P h [] us s = tt
-each_known F P h (x ∷ xs) [] s = absurd s
-each_known F P h (x ∷ xs) (u ∷ us) s = (h x (u ∷ []) s.0, each_known F P h xs us s.1)
+each_known : (R : RattleType) (P : R.Denot → Type 0) → ((x : R.Denot) (vs : List Val) → Is R x vs → P x) → (xs : List R.Denot) (us : List Val) → shadow (each R.Denot R.own_val xs us) → Each P xs
+each_known R P h [] us s = tt
+each_known R P h (x ∷ xs) [] s = absurd s
+each_known R P h (x ∷ xs) (u ∷ us) s = (h x (u ∷ []) s.0, each_known R P h xs us s.1)
 
 pub field_known : (f : Field) (vs : List Val) → Is Field'.the_row f vs → FieldShape f
 field_known f vs is =
@@ -42,8 +40,8 @@ file_known f vs is =
       small_number = k.0.1;
       small_max_isn = k.1.0.1;
       small_count = k.1.1.0.1;
-      places = sym (length-map f.fields (Field'.the_field).into) ∙ k.1.1.1.0.1.0.1;
-      each_field = each_known Field'.the_field FieldShape field_known f.fields _ k.1.1.1.0.1.1;
+      places = k.1.1.1.0.1.0.1;
+      each_field = each_known Field'.the_row FieldShape field_known f.fields _ k.1.1.1.0.1.1;
     }
 
 pub definition_known : (d : Definition) (vs : List Val) → Is Definition'.the_row d vs → DefinitionShape d
@@ -51,6 +49,6 @@ definition_known d vs is =
     let k = Struct.owed Definition'.the_type Definition_laws.the_laws d vs is in
     record {
       small_count = k.0.1;
-      places = sym (length-map d.files (File'.the_field).into) ∙ k.1.0.1.0.1;
-      each_file = each_known File'.the_field FileShape file_known d.files _ k.1.0.1.1;
+      places = k.1.0.1.0.1;
+      each_file = each_known File'.the_row FileShape file_known d.files _ k.1.0.1.1;
     }
