@@ -9,7 +9,7 @@ use Rattle.definition.specs.declared.Field.{Field}
 use Rattle.validity.specs.Validity.{valid}
 use Rattle.items.specs.Items.{item_of}
 use Rattle.items.specs.declared.Item.{Item}
-use Rattle.items.specs.declared.Item.TheVariants.{File as item-file, Field as item-field, End as item-end, Broken as item-broken}
+use Rattle.items.specs.declared.Item.TheVariants.{File as item_file, Field as item_field, End as item_end, Broken as item_broken}
 use Rattle.reading.specs.Grammar.{room_for_file, room_for_field, add_file, add_field, last_file, broken, proceed, read_from, read_table}
 use Rattle.reading.specs.declared.End.TheVariants.{At}
 use Rattle.reading.specs.declared.Reading.{Reading}
@@ -65,10 +65,10 @@ from_short zero bytes at d r = refused
 from_short (suc fuel) bytes at d r = go (item_of (drop at bytes)) (from_short fuel bytes)
   where
     go : (i : Item) → ((at : ℕ) (d : Definition) → Room at d → Short (read_from fuel bytes at d)) → Short (proceed (read_from fuel bytes) at d i)
-    go (item-file n m) later = cond_short (room_for_file d) _ (λ h. later (at + 4) (add_file d n m) (file_room at d r n m h))
-    go (item-field f) later = cond_short (room_for_field d) _ (λ h. later (at + 6) (add_field d f) (field_room at d r f h))
-    go item-end later = cond_short (valid d) _ (λ h. ends (omega (arith, r.left)))
-    go item-broken later = refused
+    go (item_file n m) later = cond_short (room_for_file d) _ (λ h. later (at + 4) (add_file d n m) (file_room at d r n m h))
+    go (item_field f) later = cond_short (room_for_field d) _ (λ h. later (at + 6) (add_field d f) (field_room at d r f h))
+    go item_end later = cond_short (valid d) _ (λ h. ends (omega (arith, r.left)))
+    go item_broken later = refused
 
 -- sixteen files of sixteen fields, and the end
 pub table_most : (bytes : List ℕ) (e : ℕ) → (read_table bytes).end ≡ At e → e ≤ 1601

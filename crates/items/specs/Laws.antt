@@ -6,17 +6,17 @@ use Rattle.std.proofs.lemmas.Bool.{eqb-false}
 use Rattle.lists.specs.Tests.{Outcome, holds, fails, outcome}
 use Rattle.items.specs.Items.{format_of, option_of, file_item, field_typed, field_item, item_of}
 use Rattle.items.specs.declared.FormatByte.{FormatByte}
-use Rattle.items.specs.declared.FormatByte.TheVariants.{Known as format_known, Unknown as format-unknown}
+use Rattle.items.specs.declared.FormatByte.TheVariants.{Known as format_known, Unknown as format_unknown}
 use Rattle.items.specs.declared.OptionByte.{OptionByte}
-use Rattle.items.specs.declared.OptionByte.TheVariants.{Known as option_known, Unknown as option-unknown}
+use Rattle.items.specs.declared.OptionByte.TheVariants.{Known as option_known, Unknown as option_unknown}
 use Rattle.items.specs.declared.Item.{Item}
-use Rattle.items.specs.declared.Item.TheVariants.{File as item-file, Field as item-field, End as item-end, Broken as item-broken}
+use Rattle.items.specs.declared.Item.TheVariants.{File as item_file, Field as item_field, End as item_end, Broken as item_broken}
 
 abbrev pub item_size : Item → ℕ
-item_size (item-file n m) = 4
-item_size (item-field f) = 6
-item_size item-end = 1
-item_size item-broken = 0
+item_size (item_file n m) = 4
+item_size (item_field f) = 6
+item_size item_end = 1
+item_size item_broken = 0
 
 file_fits : (body : List ℕ) → item_size (file_item body) ≤ length body + 1
 unfolding file_item
@@ -27,9 +27,9 @@ file_fits body = go (outcome (ltb (length body) 3))
     go (fails e) = rw e (omega (arith, ltb-false (length body) 3 e))
 
 typed_fits : (body : List ℕ) (f : FormatByte) (o : OptionByte) → item_size (field_typed body f o) ≤ 6
-typed_fits body format-unknown o = omega arith
-typed_fits body (format-known f) option-unknown = omega arith
-typed_fits body (format-known f) (option-known o) = omega arith
+typed_fits body format_unknown o = omega arith
+typed_fits body (format_known f) option_unknown = omega arith
+typed_fits body (format_known f) (option_known o) = omega arith
 
 field_fits : (body : List ℕ) → item_size (field_item body) ≤ length body + 1
 unfolding field_item
@@ -57,6 +57,6 @@ item_fits bytes = go (outcome (eqb (length bytes) 0)) (outcome (eqb k 0)) (outco
         rw (e, q, r, s) (omega (arith, z, field_fits (drop 1 bytes), length-drop 1 bytes))
     go (fails e) (fails q) (fails r) (fails s) = rw (e, q, r, s) (omega arith)
 
-pub item_none : item_of [] ≡ item-broken
+pub item_none : item_of [] ≡ item_broken
 unfolding item_of
 item_none = refl

@@ -13,7 +13,7 @@ use Rattle.definition.specs.declared.Definition.{Definition}
 use Rattle.validity.specs.Validity.{valid}
 use Rattle.items.specs.Items.{item_of}
 use Rattle.items.specs.declared.Item.{Item}
-use Rattle.items.specs.declared.Item.TheVariants.{File as item-file, Field as item-field, End as item-end, Broken as item-broken}
+use Rattle.items.specs.declared.Item.TheVariants.{File as item_file, Field as item_field, End as item_end, Broken as item_broken}
 use Rattle.reading.specs.Grammar.{room_for_file, add_file, last_file, room_for_field, with_field, add_field, broken, proceed, read_from, read_table}
 use Rattle.reading.specs.declared.End.{End}
 use Rattle.reading.specs.declared.End.TheVariants.{At, Broken}
@@ -90,10 +90,10 @@ cond_tidy false r t = none_tidy
 
 module _ (on : ℕ → Definition → Reading) (later : (at : ℕ) (d : Definition) → Grown d → TidyReading (on at d)) where
   proceed_tidy : (at : ℕ) (d : Definition) (i : Item) → Grown d → TidyReading (proceed on at d i)
-  proceed_tidy at d (item-file n m) g = cond_tidy (room_for_file d) (on (at + 4) (add_file d n m)) (λ h. later (at + 4) (add_file d n m) (file_added d n m g h))
-  proceed_tidy at d (item-field f) g = cond_tidy (room_for_field d) (on (at + 6) (add_field d f)) (λ h. later (at + 6) (add_field d f) (field_added d f g h))
-  proceed_tidy at d item-end g = cond_tidy (valid d) _ (λ v. grown_tidy d g)
-  proceed_tidy at d item-broken g = none_tidy
+  proceed_tidy at d (item_file n m) g = cond_tidy (room_for_file d) (on (at + 4) (add_file d n m)) (λ h. later (at + 4) (add_file d n m) (file_added d n m g h))
+  proceed_tidy at d (item_field f) g = cond_tidy (room_for_field d) (on (at + 6) (add_field d f)) (λ h. later (at + 6) (add_field d f) (field_added d f g h))
+  proceed_tidy at d item_end g = cond_tidy (valid d) _ (λ v. grown_tidy d g)
+  proceed_tidy at d item_broken g = none_tidy
 
 module _ (bytes : List ℕ) where
   from_tidy : (fuel at : ℕ) (d : Definition) → Grown d → TidyReading (read_from fuel bytes at d)

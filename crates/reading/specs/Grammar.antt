@@ -8,7 +8,7 @@ use Rattle.definition.specs.declared.Field.{Field}
 use Rattle.definition.specs.declared.File.{File}
 use Rattle.definition.specs.declared.Definition.{Definition}
 use Rattle.items.specs.declared.Item.{Item}
-use Rattle.items.specs.declared.Item.TheVariants.{File as item-file, Field as item-field, End as item-end, Broken as item-broken}
+use Rattle.items.specs.declared.Item.TheVariants.{File as item_file, Field as item_field, End as item_end, Broken as item_broken}
 use Rattle.reading.specs.declared.End.TheVariants.{At, Broken}
 use Rattle.reading.specs.declared.Reading.{Reading}
 
@@ -42,10 +42,10 @@ ended d end = cond (valid d) (record { end = At end; definition = d }) broken
 
 -- what an item does to the table before it: the reading goes on after the item, or it ends
 abbrev pub proceed : (ℕ → Definition → Reading) → ℕ → Definition → Item → Reading
-proceed on at d (item-file n m) = cond (room_for_file d) (on (at + 4) (add_file d n m)) broken
-proceed on at d (item-field f) = cond (room_for_field d) (on (at + 6) (add_field d f)) broken
-proceed on at d item-end = ended d (at + 1)
-proceed on at d item-broken = broken
+proceed on at d (item_file n m) = cond (room_for_file d) (on (at + 4) (add_file d n m)) broken
+proceed on at d (item_field f) = cond (room_for_field d) (on (at + 6) (add_field d f)) broken
+proceed on at d item_end = ended d (at + 1)
+proceed on at d item_broken = broken
 
 -- the items from `at` on, after those that made d. `fuel` bounds their number: the count of the bytes is enough
 unfoldable pub read_from : ℕ → List ℕ → ℕ → Definition → Reading

@@ -11,7 +11,7 @@ use Rattle.items.specs.Laws.{item_size, item_fits}
 use Rattle.reading.specs.Grammar.{room_for_file, room_for_field, add_file, add_field, broken, ended, proceed, read_from, read_table}
 use Rattle.definition.specs.declared.Definition.{Definition}
 use Rattle.items.specs.declared.Item.{Item}
-use Rattle.items.specs.declared.Item.TheVariants.{File as item-file, Field as item-field, End as item-end, Broken as item-broken}
+use Rattle.items.specs.declared.Item.TheVariants.{File as item_file, Field as item_field, End as item_end, Broken as item_broken}
 use Rattle.reading.specs.declared.End.TheVariants.{At}
 use Rattle.reading.specs.declared.Reading.{Reading}
 
@@ -34,10 +34,10 @@ module _ (bytes : List ℕ) where
 
   module _ (on : ℕ → Definition → Reading) (later : (at : ℕ) (d : Definition) → Sound bytes (on at d)) where
     proceed_sound : (at : ℕ) (d : Definition) (i : Item) → item_size i ≤ length bytes - at → Sound bytes (proceed on at d i)
-    proceed_sound at d (item-file n m) h = cond_sound (room_for_file d) (on (at + 4) (add_file d n m)) (later (at + 4) (add_file d n m))
-    proceed_sound at d (item-field f) h = cond_sound (room_for_field d) (on (at + 6) (add_field d f)) (later (at + 6) (add_field d f))
-    proceed_sound at d item-end h = ended_sound d (at + 1) (omega arith)
-    proceed_sound at d item-broken h = refused
+    proceed_sound at d (item_file n m) h = cond_sound (room_for_file d) (on (at + 4) (add_file d n m)) (later (at + 4) (add_file d n m))
+    proceed_sound at d (item_field f) h = cond_sound (room_for_field d) (on (at + 6) (add_field d f)) (later (at + 6) (add_field d f))
+    proceed_sound at d item_end h = ended_sound d (at + 1) (omega arith)
+    proceed_sound at d item_broken h = refused
 
   from_sound : (fuel at : ℕ) (d : Definition) → Sound bytes (read_from fuel bytes at d)
   unfolding read_from

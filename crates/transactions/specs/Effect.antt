@@ -191,5 +191,5 @@ module _ (G : Ground) where
       pub fits_change : all fitting m.queue ≡ true → all fitting (act G (change u k c) m).queue ≡ true
       unfolding act
       fits_change f = all_map fitting (image_kept k (get m.store k))
-          (fits_image_kept k (get m.store k) (L.get-Fit m.store k (L.may_key c k (get m.store k) may?)))
+          (fits_image_kept k (get m.store k) (L.get_fit m.store k (L.may_key c k (get m.store k) may?)))
           (with_hold u k m.queue) (fits_hold u k m.queue f)

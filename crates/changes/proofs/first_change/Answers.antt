@@ -10,25 +10,25 @@ pub returns-then-queue-at : goal.returns-then-queue-at
 unfolding first_change_queue first_change_images settled
 returns-then-queue-at c =
     let yes = le-leb _ _ c.if-queue-at.true in
-    (rw yes, rw yes)
+    record { queue_after = rw yes; images_after = rw yes }
 
 pub returns-then-e : goal.returns-then-e
 unfolding first_change_queue first_change_images settled
 returns-then-e c =
     let no = lt-leb _ _ c.if-queue-at.false in
     let fresh = sym (ap (λ (e : Entry). e.changed) c.unpack-e.ensures) ∙ c.if-e.true in
-    (rw (no, fresh), rw (no, fresh))
+    record { queue_after = rw (no, fresh); images_after = rw (no, fresh) }
 
 pub returns-then-existed : goal.returns-then-existed
 unfolding first_change_queue first_change_images settled
 returns-then-existed c =
     let no = lt-leb _ _ c.if-queue-at.false in
     let fresh = sym (ap (λ (e : Entry). e.changed) c.unpack-e.ensures) ∙ c.if-e.false in
-    (rw (no, fresh) c.change.ensures, rw (no, fresh, c.if-existed.true) c.keep_image.ensures)
+    record { queue_after = rw (no, fresh) c.change.ensures; images_after = rw (no, fresh, c.if-existed.true) c.keep_image.ensures }
 
 pub returns-else-existed : goal.returns-else-existed
 unfolding first_change_queue first_change_images settled
 returns-else-existed c =
     let no = lt-leb _ _ c.if-queue-at.false in
     let fresh = sym (ap (λ (e : Entry). e.changed) c.unpack-e.ensures) ∙ c.if-e.false in
-    (rw (no, fresh) c.change.ensures, rw (no, fresh, c.if-existed.false))
+    record { queue_after = rw (no, fresh) c.change.ensures; images_after = rw (no, fresh, c.if-existed.false) }

@@ -6,12 +6,6 @@ use Rattle.lists.specs.Tests.{eqbs}
 use Rattle.lists.specs.Parts.{part_least}
 use Rattle.images.proofs.has_at.Goals as goal
 
--- LOOK part_same_start : tie.Need-slice-bounds-same-start
--- LOOK part_same_start c = search rules
-
--- LOOK part_same_end : tie.Need-slice-bounds-same-end
--- LOOK part_same_end c = search rules
-
 pub returns : goal.returns
 returns c =
     let a = c.args in

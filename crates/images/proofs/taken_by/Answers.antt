@@ -1,10 +1,9 @@
 -- `taken_by` meets its contract. Assumes nothing.
 use mathlib.Core.Path.{sym, ◌∙◌}
-use borrow.Author.Tests.{not-true, not-false}
 use Rattle.images.proofs.taken_by.Goals as goal
 
 pub returns-then-not-counts : goal.returns-then-not-counts
-returns-then-not-counts c = rw (sym c.counts.ensures ∙ not-true _ c.if-not-counts.true)
+returns-then-not-counts c = rw (sym c.counts.ensures ∙ c.if-not-counts.true)
 
 pub returns : goal.returns
-returns c = c.image_has_at.ensures ∙ rw (sym c.counts.ensures ∙ not-false _ c.if-not-counts.false)
+returns c = c.image_has_at.ensures ∙ rw (sym c.counts.ensures ∙ c.if-not-counts.false)

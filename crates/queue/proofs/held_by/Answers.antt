@@ -5,11 +5,11 @@ use Rattle.queue.specs.Queue.{one_of, held_by}
 use mathlib.Core.Path.{sym, ap, ◌∙◌}
 use native.Mathlib.Omega.{arith}
 use borrow.Author.Rules.{rules}
-use mathlib.Core.Logic.{⊎_elim}
 use borrow.Author.Tests.{eq-eqb, ne_eqb}
 use Rattle.lists.specs.Folds.{total}
 use Rattle.entries.specs.Laws.{entry_next, no_entry_left}
 use Rattle.queue.proofs.held_by.Goals as goal
+use Rattle.queue.proofs.held_by.Goals.{else-e-user, then-e-user}
 
 pub loop-i-preserved : goal.loop-i-preserved
 loop-i-preserved c =
@@ -17,10 +17,7 @@ loop-i-preserved c =
     let e = c.unpack-e.ensures in
     let next = ap (total (one_of a.user)) (entry_next a.queue.now a.count c.loop-i.i (omega arith)) in
     let one = sym (ap (one_of a.user) e) in
-    ⊎_elim
-    (λ w. (search rules, omega arith, omega arith, omega (arith, next, one ∙ ap bit (eq-eqb _ _ w.0.taken))))
-    (λ w. (search rules, omega arith, omega arith, omega (arith, next, one ∙ ap bit (ne_eqb _ _ w.0.left))))
-    c.if-e-user.branch
+    elim c.if-e-user.branch [ then-e-user w ↦ (search rules, omega arith, omega arith, omega (arith, next, one ∙ ap bit (eq-eqb _ _ w.if-e-user.true))) | else-e-user w ↦ (search rules, omega arith, omega arith, omega (arith, next, one ∙ ap bit (ne_eqb _ _ w.if-e-user.false))) ]
 
 pub returns : goal.returns
 unfolding held_by

@@ -1,0 +1,14 @@
+-- `frozen_file` meets its contract. The loop's invariant: up to `i` the new fields stand, from `i` on what was there before.
+-- Assumes nothing.
+use Prim.Native.Nat.{◌-◌, ◌≤◌}
+use mathlib.Core.Path.{◌≡◌}
+use mathlib.Core.List.{◌++◌, map}
+use lib.ListN.{length, take, drop}
+use Rattle.kept_tables.specs.KeptTables.{frozen_field}
+use Rattle.kept_tables.proofs.frozen_file.Given as goal
+
+abbrev pub invariant-loop-i : goal.invariant-loop-i
+invariant-loop-i l = (l.i ≤ 16) × (l.fields ≡ take l.i (map frozen_field l.f.fields) ++ drop l.i l.initial.fields) × (length l.fields ≡ 16) × (length l.initial.fields ≡ 16)
+
+abbrev pub decreases-loop-i : goal.decreases-loop-i
+decreases-loop-i l = 16 - l.i

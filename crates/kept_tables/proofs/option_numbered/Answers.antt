@@ -1,0 +1,17 @@
+-- `option_numbered` meets its contract: the number of each arm computes to its case, and past the arms no test holds. Assumes nothing.
+use mathlib.Core.Path.{sym, ap}
+use borrow.Author.Tests.{ne_eqb}
+use Rattle.kept_tables.specs.KeptTables.{option_numbered}
+use Rattle.kept_tables.proofs.option_numbered.Goals as goal
+
+pub returns-in-0 : goal.returns-in-0
+unfolding option_numbered
+returns-in-0 c = sym (ap option_numbered c.in-0.is)
+
+pub returns-in-1 : goal.returns-in-1
+unfolding option_numbered
+returns-in-1 c = sym (ap option_numbered c.in-1.is)
+
+pub returns-in_default : goal.returns-in_default
+unfolding option_numbered
+returns-in_default c = let r = c.in_default.in_default-own.rest in rw (ne_eqb _ 0 r.0.1, ne_eqb _ 1 r.1)
