@@ -1,0 +1,48 @@
+-- `named_twice` meets its contract. The loop's invariant: a field is named twice where one that is left to come is seen, or comes twice.
+-- Assumes nothing.
+use native.Mathlib.Omega.{arith}
+use mathlib.Core.Bool.{true}
+use mathlib.Core.Logic.{⊎_elim}
+use mathlib.Core.Path.{sym, ◌∙◌}
+use lib.ListN.{length-set}
+use borrow.Author.Rules.{rules}
+use Rattle.elements.specs.Elements.{places, named_twice}
+use Rattle.elements.specs.Lists.{repeats_twice}
+use Rattle.elements.specs.Steps.{places_step, places_end}
+use Rattle.elements.specs.Laws.{element_inside, places_below}
+use Rattle.elements.proofs.named_twice.Goals as goal
+
+pub loop-i-init : goal.loop-i-init
+unfolding named_twice
+loop-i-init c = (search rules, sym (repeats_twice 16 (places c.args.f c.args.format.now) (places_below c.args.f c.args.format.now)))
+
+pub bounds-seen-k : goal.bounds-seen-k
+bounds-seen-k c =
+    let a = c.args in
+    omega (arith, element_inside a.f a.format.now c.loop-i.i c.in-At.k (sym c.element-found.ensures ∙ c.in-At.is))
+
+pub returns-then-seen-k : goal.returns-then-seen-k
+returns-then-seen-k c =
+    let a = c.args in
+    let e = sym c.element-found.ensures ∙ c.in-At.is in
+    sym (c.loop-i.invariant.1 ∙ rw (places_step a.f a.format.now c.loop-i.i, e, c.if-seen-k.true))
+
+pub bounds-seen-k-in-At : goal.bounds-seen-k-in-At
+bounds-seen-k-in-At c =
+    let a = c.args in
+    omega (arith, element_inside a.f a.format.now c.loop-i.i c.in-At.k (sym c.element-found.ensures ∙ c.in-At.is))
+
+pub loop-i-preserved : goal.loop-i-preserved
+loop-i-preserved c =
+    let a = c.args in
+    let e = sym c.element-found.ensures in
+    let next = places_step a.f a.format.now c.loop-i.i in
+    ⊎_elim
+    (λ w. (rw w.4 (length-set c.loop-i.seen w.1.given.0.0 true ∙ c.loop-i.invariant.0), c.loop-i.invariant.1 ∙ rw (next, e ∙ w.1.given.1, w.3.left, w.4)))
+    (λ w. (rw w.2 c.loop-i.invariant.0, c.loop-i.invariant.1 ∙ rw (next, e ∙ w.1.given.1, w.2)))
+    c.match-found.branch
+
+pub returns : goal.returns
+returns c =
+    let a = c.args in
+    sym (c.loop-i.invariant.1 ∙ rw (places_end a.f a.format.now c.loop-i.i c.loop-i-test.false))

@@ -1,0 +1,10 @@
+-- `within` meets its contract.
+-- Assumes nothing.
+use borrow.Author.Tests.{le-leb, lt-leb}
+use Rattle.file_validity.proofs.within.Goals as goal
+
+pub returns-then-lo-n : goal.returns-then-lo-n
+returns-then-lo-n c = rw (le-leb _ _ c.if-lo-n.true)
+
+pub returns-else-lo-n : goal.returns-else-lo-n
+returns-else-lo-n c = rw (lt-leb _ _ c.if-lo-n.false)
