@@ -11,6 +11,7 @@ use Rattle.elements.specs.Lists.{repeats_twice}
 use Rattle.elements.specs.Steps.{places_step, places_end}
 use Rattle.elements.specs.Laws.{element_inside, places_below}
 use Rattle.elements.proofs.named_twice.Goals as goal
+use Rattle.elements.proofs.named_twice.Goals.{in-At+else-seen-k, in_default}
 
 pub loop-i-init : goal.loop-i-init
 unfolding named_twice
@@ -37,10 +38,11 @@ loop-i-preserved c =
     let a = c.args in
     let e = sym c.element-found.ensures in
     let next = places_step a.f a.format.now c.loop-i.i in
-    ⊎_elim
-    (λ w. (rw w.4 (length-set c.loop-i.seen w.1.given.0.0 true ∙ c.loop-i.invariant.0), c.loop-i.invariant.1 ∙ rw (next, e ∙ w.1.given.1, w.3.left, w.4)))
-    (λ w. (rw w.2 c.loop-i.invariant.0, c.loop-i.invariant.1 ∙ rw (next, e ∙ w.1.given.1, w.2)))
-    c.match-found.branch
+    elim c.match-found.branch [
+      | in-At+else-seen-k w ↦
+          (rw w.seen-is (length-set c.loop-i.seen w.in-At.k true ∙ c.loop-i.invariant.0), c.loop-i.invariant.1 ∙ rw (next, e ∙ w.in-At.is, w.if-seen-k.false, w.seen-is))
+      | in_default w ↦ (rw w.seen-is c.loop-i.invariant.0, c.loop-i.invariant.1 ∙ rw (next, e ∙ w.in_default.is, w.seen-is))
+    ]
 
 pub returns : goal.returns
 returns c =

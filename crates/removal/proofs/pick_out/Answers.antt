@@ -26,7 +26,7 @@ loop-i-init c =
 pub returns-then-written-out : goal.returns-then-written-out
 returns-then-written-out c =
     let a = c.args in
-    ended (goal.at.returns-then-written-out c).At-loop-i (unpicked_full a.which a.queue.now a.count (length a.out.now) c.loop-i.i c.loop-i.written (omega arith))
+    let all = ended (goal.at.returns-then-written-out c).At-loop-i (unpicked_full a.which a.queue.now a.count (length a.out.now) c.loop-i.i c.loop-i.written (omega arith)) in record { value = all.0; out_after = all.1 }
 
 pub loop-i-preserved-then-goes : goal.loop-i-preserved-then-goes
 loop-i-preserved-then-goes c =
@@ -58,4 +58,4 @@ loop-i-preserved c =
 pub returns : goal.returns
 returns c =
     let a = c.args in
-    ended (goal.at.returns c).At-loop-i (unpicked_none a.which a.queue.now a.count (length a.out.now) c.loop-i.i c.loop-i.written (omega arith))
+    let all = ended (goal.at.returns c).At-loop-i (unpicked_none a.which a.queue.now a.count (length a.out.now) c.loop-i.i c.loop-i.written (omega arith)) in record { value = all.0; out_after = all.1 }

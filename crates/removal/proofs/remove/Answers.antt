@@ -16,48 +16,48 @@ use lib.Seq.{paste}
 use borrow.Author.Tests.{le-leb, lt-leb, leb-true, not-false}
 use Rattle.removal.specs.Turn.{flags, length_flags, flags_most, turn_read, turn_count, stay_queue, stay_images, go_on}
 use Rattle.removal.proofs.remove.Goals as goal
-use Rattle.removal.proofs.remove.Goals.{else-not-goes, then-not-goes}
+use Rattle.removal.proofs.remove.Goals.{At-loop-i, else-not-goes, then-not-goes}
 
 -- ---- at the head of the loop: there is room for all entries, and both slices are as long as they were
-module _ (l : tie.At-loop invariant_loop decreases_loop) where
+module _ (c : At-loop-i) where
   abbrev Q : List ℕ
-  Q = l.before.before.before.before.before.before.args.queue.now
+  Q = c.args.queue.now
 
   abbrev M : List ℕ
-  M = l.before.before.before.before.before.before.args.images.now
+  M = c.args.images.now
 
   abbrev W : ℕ
-  W = l.before.before.before.before.before.before.args.width
+  W = c.args.width
 
   abbrev F : List Bool
-  F = flags l.before.before.before.before.before.before.args.which Q l.loop.i
+  F = flags c.args.which Q c.loop-i.i
 
-  passed : length F ≡ l.loop.i
-  passed = length_flags l.before.before.before.before.before.before.args.which Q l.loop.i (omega arith)
+  passed : length F ≡ c.loop-i.i
+  passed = length_flags c.args.which Q c.loop-i.i (omega arith)
 
-  enough : l.before.before.before.before.before.before.args.count * W ≤ length M
-  enough = leb-true _ _ (sym l.before.before.blocks-fit.ensures ∙ not-false _ l.before.if2.left)
+  enough : c.args.count * W ≤ length M
+  enough = leb-true _ _ (sym c.blocks_fit.ensures ∙ c.if-not-blocks_fit.false)
 
   room_before : length F * W ≤ length M
   room_before =
-      let e : l.loop.i ≤ l.before.before.before.before.before.before.args.count = l.loop.inv.0 in
+      let e : c.loop-i.i ≤ c.args.count = c.loop-i.invariant.0 in
       rw passed (omega (arith, enough, mul-le-mul_right W e))
 
-  kept_most : l.loop.kept ≤ l.loop.i
-  kept_most = omega (arith, flags_most l.before.before.before.before.before.before.args.which Q l.loop.i (omega arith), l.loop.inv.1)
+  kept_most : c.loop-i.kept ≤ c.loop-i.i
+  kept_most = omega (arith, flags_most c.args.which Q c.loop-i.i (omega arith), c.loop-i.invariant.1)
 
   queue_room : length F * 1 ≤ length Q
   queue_room = omega (arith, passed)
 
-  queue_length : length l.loop.queue ≡ length Q
-  queue_length = ap length l.loop.inv.2 ∙ length_closed 1 F Q queue_room
+  queue_length : length c.loop-i.queue ≡ length Q
+  queue_length = ap length c.loop-i.invariant.2 ∙ length_closed 1 F Q queue_room
 
-  images_length : length l.loop.images ≡ length M
-  images_length = ap length l.loop.inv.3 ∙ length_closed W F M room_before
+  images_length : length c.loop-i.images ≡ length M
+  images_length = ap length c.loop-i.invariant.3 ∙ length_closed W F M room_before
 
-  room : l.loop.i < l.before.before.before.before.before.before.args.count → (l.loop.i + 1) * W ≤ length M
+  room : c.loop-i.i < c.args.count → (c.loop-i.i + 1) * W ≤ length M
   room h =
-      let e : l.loop.i + 1 ≤ l.before.before.before.before.before.before.args.count = omega arith in
+      let e : c.loop-i.i + 1 ≤ c.args.count = omega arith in
       omega (arith, enough, mul-le-mul_right W e)
 
 pub returns-then-count-queue : goal.returns-then-count-queue
@@ -80,45 +80,46 @@ unfolding closed
 loop-i-init c = (omega arith, rw (entries_are _ 0), rw (entries_are _ 0), rw (entries_are _ 0))
 
 pub bounds-queue-i : goal.bounds-queue-i
-bounds-queue-i c = omega (arith, queue_length c)
+bounds-queue-i c = omega (arith, queue_length (goal.at.bounds-queue-i c).At-loop-i)
 
 pub move_entry-requires : goal.move_entry-requires
 move_entry-requires c =
-    let a = c.args in
-    (omega (arith, kept_most c), omega (arith, queue_length c), omega (arith, images_length c, room c c.loop-i-test.true))
+    let at = (goal.at.move_entry-requires c).At-loop-i in
+    (omega (arith, kept_most at), omega (arith, queue_length at), omega (arith, images_length at, room at c.loop-i-test.true))
 
 pub overflow_add-kept : goal.overflow_add-kept
-overflow_add-kept c = omega (arith, kept_most c)
+overflow_add-kept c = omega (arith, kept_most (goal.at.overflow_add-kept c).At-loop-i)
 
 pub loop-i-preserved : goal.loop-i-preserved
 loop-i-preserved c =
     let a = c.args in
+    let at = (goal.at.loop-i-preserved c).At-loop-i in
     let more = c.loop-i-test.true in
     let inside : c.loop-i.i < length a.queue.now = omega arith in
     let e : c.unpack-e.result ≡ unpack_of (get_or a.queue.now c.loop-i.i 0) =
-    c.unpack-e.ensures ∙ ap (λ q. unpack_of (get_or q c.loop-i.i 0)) c.loop-i.invariant.2 ∙ ap unpack_of (turn_read a.which a.queue.now a.images.now a.width c.loop-i.i inside (room c more)) in
-    let count = turn_count a.which a.queue.now a.images.now a.width c.loop-i.i inside (room c more) c.unpack-e.result e in
+    c.unpack-e.ensures ∙ ap (λ q. unpack_of (get_or q c.loop-i.i 0)) c.loop-i.invariant.2 ∙ ap unpack_of (turn_read a.which a.queue.now a.images.now a.width c.loop-i.i inside (room at more)) in
+    let count = turn_count a.which a.queue.now a.images.now a.width c.loop-i.i inside (room at more) c.unpack-e.result e in
     elim c.if-not-goes.branch [
-      | then-not-goes w ↦ let s : stays a.which c.unpack-e.result ≡ true = ap not (sym c.goes.ensures) ∙ w.if-not-goes.true in
-          let word : set c.loop-i.queue c.loop-i.auto (get_or c.loop-i.queue c.loop-i.i 0) ≡ closed 1 (flags a.which a.queue.now (c.loop-i.i + 1)) a.queue.now =
-          rw (c.loop-i.invariant.2, c.loop-i.invariant.1) (stay_queue a.which a.queue.now a.images.now a.width c.loop-i.i inside (room c more) c.unpack-e.result e s) in
-          let image : paste c.loop-i.images (c.loop-i.auto * a.width) (drop (c.loop-i.i * a.width) c.loop-i.images) a.width ≡ closed a.width (flags a.which a.queue.now (c.loop-i.i + 1)) a.images.now =
-          rw (c.loop-i.invariant.3, c.loop-i.invariant.1) (stay_images a.which a.queue.now a.images.now a.width c.loop-i.i inside (room c more) c.unpack-e.result e s) in
-          (omega arith, omega (arith, count, ap bit s, w.10, c.loop-i.invariant.1), w.8 ∙ w.3.ensures.0 ∙ word, w.9 ∙ w.3.ensures.1 ∙ image)
-      | else-not-goes w ↦ let s : stays a.which c.unpack-e.result ≡ false = ap not (sym c.goes.ensures) ∙ w.if-not-goes.false in
-          let on = go_on a.which a.queue.now a.images.now a.width c.loop-i.i inside (room c more) c.unpack-e.result e in (
+      | then-not-goes w ↦ let s : stays a.which c.unpack-e.result ≡ true = ap not (sym c.goes.ensures ∙ w.if-not-goes.true) in
+          let word : set c.loop-i.queue c.loop-i.kept (get_or c.loop-i.queue c.loop-i.i 0) ≡ closed 1 (flags a.which a.queue.now (c.loop-i.i + 1)) a.queue.now =
+          rw (c.loop-i.invariant.2, c.loop-i.invariant.1) (stay_queue a.which a.queue.now a.images.now a.width c.loop-i.i inside (room at more) c.unpack-e.result e s) in
+          let image : paste c.loop-i.images (c.loop-i.kept * a.width) (drop (c.loop-i.i * a.width) c.loop-i.images) a.width ≡ closed a.width (flags a.which a.queue.now (c.loop-i.i + 1)) a.images.now =
+          rw (c.loop-i.invariant.3, c.loop-i.invariant.1) (stay_images a.which a.queue.now a.images.now a.width c.loop-i.i inside (room at more) c.unpack-e.result e s) in
+          (omega arith, omega (arith, count, ap bit s, w.kept-is, c.loop-i.invariant.1), w.queue-is ∙ w.move_entry.ensures.queue_after ∙ word, w.images-is ∙ w.move_entry.ensures.images_after ∙ image)
+      | else-not-goes w ↦ let s : stays a.which c.unpack-e.result ≡ false = ap not (sym c.goes.ensures ∙ w.if-not-goes.false) in
+          let on = go_on a.which a.queue.now a.images.now a.width c.loop-i.i inside (room at more) c.unpack-e.result e in (
             omega arith,
-            omega (arith, count, ap bit s, w.3, c.loop-i.invariant.1),
-            w.1 ∙ c.loop-i.invariant.2 ∙ on 1 a.queue.now (queue_room c) s,
-            w.2 ∙ c.loop-i.invariant.3 ∙ on a.width a.images.now (room_before c) s,
+            omega (arith, count, ap bit s, w.kept-is, c.loop-i.invariant.1),
+            w.queue-is ∙ c.loop-i.invariant.2 ∙ on 1 a.queue.now (queue_room at) s,
+            w.images-is ∙ c.loop-i.invariant.3 ∙ on a.width a.images.now (room_before at) s,
           )
     ]
 
 pub shape_of-queue : goal.shape_of-queue
-shape_of-queue c = queue_length c
+shape_of-queue c = queue_length (goal.at.shape_of-queue c).At-loop-i
 
 pub shape_of-images : goal.shape_of-images
-shape_of-images c = images_length c
+shape_of-images c = images_length (goal.at.shape_of-images c).At-loop-i
 
 pub returns : goal.returns
 unfolding remove_queue remove_images remove_count
