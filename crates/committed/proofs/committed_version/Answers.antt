@@ -10,7 +10,7 @@ use Rattle.queue.specs.declared.Lookup.TheVariants.{Held}
 use Rattle.committed.specs.Committed.{version_of, committed_version}
 use Rattle.committed.specs.declared.Version.TheVariants.{Stored, Imaged, Absent}
 use Rattle.committed.proofs.committed_version.Goals as goal
-use Rattle.committed.proofs.committed_version.Goals.{In-Held-2}
+use Rattle.committed.proofs.committed_version.Goals.{In-Held}
 
 version_unchanged : (i : ℕ) (e : Entry) → e.changed ≡ false → version_of (Held i e) ≡ Stored
 version_unchanged i e same = rw same
@@ -21,10 +21,10 @@ version_added i e changed new = rw (changed, new)
 version_kept : (i : ℕ) (e : Entry) → e.changed ≡ true → e.existed ≡ true → version_of (Held i e) ≡ Imaged i
 version_kept i e changed old = rw (changed, old)
 
-abbrev entry_of : (c : In-Held-2) → Entry
+abbrev entry_of : (c : In-Held) → Entry
 entry_of c = c.in-Held.e
 
-found : (c : In-Held-2) → let a = c.args in
+found : (c : In-Held) → let a = c.args in
     holder (entries a.queue.now a.count) a.file a.isn ≡ Held c.in-Held.at (entry_of c)
 found c = sym c.holder-found.ensures ∙ c.in-Held.is
 
@@ -34,12 +34,12 @@ returns-in_default c = rw (sym c.holder-found.ensures ∙ c.in_default.is)
 
 pub returns-then-not-e : goal.returns-then-not-e
 unfolding committed_version
-returns-then-not-e c =     sym (ap version_of (found (goal.at.returns-then-not-e c).In-Held-2) ∙ version_unchanged _ (entry_of (goal.at.returns-then-not-e c).In-Held-2) (not-true (entry_of (goal.at.returns-then-not-e c).In-Held-2).changed c.if-not-e.true))
+returns-then-not-e c = sym (ap version_of (found (goal.at.returns-then-not-e c).In-Held) ∙ version_unchanged _ (entry_of (goal.at.returns-then-not-e c).In-Held) (not-true (entry_of (goal.at.returns-then-not-e c).In-Held).changed c.if-not-e.true))
 
 pub returns-then-not-e-2 : goal.returns-then-not-e-2
 unfolding committed_version
-returns-then-not-e-2 c =     sym (ap version_of (found (goal.at.returns-then-not-e-2 c).In-Held-2) ∙ version_added _ (entry_of (goal.at.returns-then-not-e-2 c).In-Held-2) (not-false (entry_of (goal.at.returns-then-not-e-2 c).In-Held-2).changed c.if-not-e.false) (not-true (entry_of (goal.at.returns-then-not-e-2 c).In-Held-2).existed c.if-not-e-2.true))
+returns-then-not-e-2 c = sym (ap version_of (found (goal.at.returns-then-not-e-2 c).In-Held) ∙ version_added _ (entry_of (goal.at.returns-then-not-e-2 c).In-Held) (not-false (entry_of (goal.at.returns-then-not-e-2 c).In-Held).changed c.if-not-e.false) (not-true (entry_of (goal.at.returns-then-not-e-2 c).In-Held).existed c.if-not-e-2.true))
 
 pub returns : goal.returns
 unfolding committed_version
-returns c =     sym (ap version_of (found (goal.at.returns c).In-Held-2) ∙ version_kept _ (entry_of (goal.at.returns c).In-Held-2) (not-false (entry_of (goal.at.returns c).In-Held-2).changed c.if-not-e.false) (not-false (entry_of (goal.at.returns c).In-Held-2).existed c.if-not-e-2.false))
+returns c = sym (ap version_of (found (goal.at.returns c).In-Held) ∙ version_kept _ (entry_of (goal.at.returns c).In-Held) (not-false (entry_of (goal.at.returns c).In-Held).changed c.if-not-e.false) (not-false (entry_of (goal.at.returns c).In-Held).existed c.if-not-e-2.false))

@@ -18,7 +18,7 @@ room : (c : Else-not-image_inside) → let a = c.args in a.i * a.width + record_
 room c = leb-true _ _ (inside c)
 
 pub returns-then-not-image_inside : goal.returns-then-not-image_inside
-returns-then-not-image_inside c =     rw (sym c.image_inside.ensures ∙ c.if-not-image_inside.true)
+returns-then-not-image_inside c = rw (sym c.image_inside.ensures ∙ c.if-not-image_inside.true)
 
 pub overflow_mul-start : goal.overflow_mul-start
 overflow_mul-start c = omega (arith, room (goal.at.overflow_mul-start c).Else-not-image_inside)

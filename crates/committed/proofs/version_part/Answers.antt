@@ -12,4 +12,4 @@ returns-in-Imaged c = rw c.in-Imaged.is c.image_part.ensures
 
 pub returns-in-Absent : goal.returns-in-Absent
 unfolding version_bytes
-returns-in-Absent c = rw c.enum_told-in-Absent-1.given.1
+returns-in-Absent c = rw c.in-Absent.is

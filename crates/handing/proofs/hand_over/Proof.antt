@@ -3,8 +3,7 @@
 use Prim.Native.Nat.{◌-◌}
 use native.Mathlib.Omega.{arith}
 use borrow.Author.Rules.{rules}
-use Rattle.handing.proofs.hand_over.Proof.Turns.{Pending, start, all_done, none_waits, turn}
-mod Turns
+use Rattle.handing.proofs.Turns.{Pending, start, all_done, none_waits, turn}
 use Rattle.handing.proofs.hand_over.Statement.{statement}
 use Rattle.handing.proofs.hand_over.Tie as tie
 

@@ -119,7 +119,7 @@ loop-i-preserved-in-At c =
     let same = turn a.d a.width a.user c.loop-i.i a.queue.now a.count a.images.now c.loop-i.store e (At at) (omega (arith, c.requires.d_in_bounds)) (omega arith) c.unpack-e.ensures (sym c.in-At.is ∙ sought (goal.at.loop-i-preserved-in-At c).After-undone_at-found) in
     let size : get_or a.starts.now (at + 1) 0 - get_or a.starts.now at 0 ≡ file_size (file_at a.d at) = omega (arith, ends (goal.at.loop-i-preserved-in-At c).In-At) in
     let now : c.put_back.new.store ≡ in_part a.d at e image c.loop-i.store = rw (part_take (c.loop-i.i * a.width) a.width a.images.now, size, (ends (goal.at.loop-i-preserved-in-At c).In-At).0) at c.put_back.ensures in
-    (omega arith, omega (arith, c.put_back.auto.1.1.1.1.1.0, c.loop-i.invariant.1), rw (now, ← (put_back_part a.d at e image c.loop-i.store)) (same ∙ c.loop-i.invariant.2))
+    (omega arith, omega (arith, c.put_back.auto.store, c.loop-i.invariant.1), rw (now, ← (put_back_part a.d at e image c.loop-i.store)) (same ∙ c.loop-i.invariant.2))
 
 pub loop-i-preserved : goal.loop-i-preserved
 loop-i-preserved c =

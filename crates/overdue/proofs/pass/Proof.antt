@@ -5,8 +5,7 @@ use native.Mathlib.Omega.{arith}
 use mathlib.Core.Path.{refl, sym, ◌∙◌}
 use borrow.Author.Rules.{rules}
 use Rattle.nucleus.specs.Nucleus.{max_users}
-use Rattle.overdue.proofs.pass.Proof.Turns.{Pending, start, all_done, turn_early, turn_due}
-mod Turns
+use Rattle.overdue.proofs.Turns.{Pending, start, all_done, turn_early, turn_due}
 use Rattle.overdue.proofs.pass.Statement.{statement}
 use Rattle.overdue.proofs.pass.Tie as tie
 

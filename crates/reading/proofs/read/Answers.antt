@@ -5,10 +5,8 @@ use native.Mathlib.Omega.{arith}
 use borrow.Author.Tests.{lt-ltb, le-ltb}
 use Rattle.lists.specs.Rest.{part_to_end}
 use Rattle.items.specs.Items.{item_of}
-use Rattle.reading.proofs.read.Proof.Unread.{start, past, at_broken, at_end, file_full, file_more, file_inside, field_full, field_more, field_inside}
+use Rattle.reading.proofs.Unread.{start, past, at_broken, at_end, file_full, file_more, file_inside, field_full, field_more, field_inside}
 use Rattle.reading.proofs.read.Goals as goal
-mod Unread
-use Rattle.reading.proofs.read.Tie as tie
 
 pub loop-at-init : goal.loop-at-init
 loop-at-init c = rw c.no_definition-d.ensures (start _)

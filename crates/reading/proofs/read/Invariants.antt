@@ -2,7 +2,7 @@
 -- Assumes nothing.
 use Prim.Native.Nat.{◌-◌}
 use lib.ListN.{length}
-use Rattle.reading.proofs.read.Proof.Unread.{Pending}
+use Rattle.reading.proofs.Unread.{Pending}
 use Rattle.reading.proofs.read.Given as goal
 
 abbrev pub invariant-loop-at : goal.invariant-loop-at

@@ -13,7 +13,7 @@ first_record-requires c = record { le_size = omega arith; le_from = omega arith;
 
 pub returns-then-from-eq0 : goal.returns-then-from-eq0
 unfolding lowest
-returns-then-from-eq0 c = rw (c.first_record.ensures, c.if-from-eq0.true, from_to_more 0 (slot_count c.args.f (length c.args.part.now)) (omega arith), c.slot_count-last.ensures, c.slot_length-size.ensures, has_record_is c.args.f c.args.part.now)
+returns-then-from-eq0 c = rw (c.if-from-eq0.true, has_record_is c.args.f c.args.part.now, c.first_record.ensures, from_to_more 0 (slot_count c.args.f (length c.args.part.now)) (omega arith), c.slot_count-last.ensures, c.slot_length-size.ensures)
 
 pub first_record-requires-2 : goal.first_record-requires-2
 first_record-requires-2 c = record { le_size = omega arith; le_from = omega arith; last_bound = omega arith; size_in_bounds = rw (c.slot_count-last.ensures, c.slot_length-size.ensures) (count_room c.args.f (length c.args.part.now)) }

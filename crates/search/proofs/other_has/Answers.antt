@@ -14,7 +14,7 @@ use Rattle.search.specs.Search.{held, has_field}
 use Rattle.store.specs.Slots.{slot_next, slot_room}
 use Rattle.search.specs.Slots.{held_here}
 use Rattle.search.proofs.other_has.Goals as goal
-use Rattle.search.proofs.other_has.Goals.{In-loop-other, else-other-isn, then-other-isn}
+use Rattle.search.proofs.other_has.Goals.{In-loop-other, else-other-isn, then-other-isn+else-has_field}
 
 -- in a turn: the slot lies within the part, its test reads at its place, and it is the next of those that are left
 abbrev P : (c : In-loop-other) → ℕ → Bool
@@ -49,7 +49,7 @@ overflow_add-at c = omega (arith, room (goal.at.overflow_add-at c).In-loop-other
 
 pub loop-other-preserved : goal.loop-other-preserved
 loop-other-preserved c =
-    let no : P (goal.at.loop-other-preserved c).In-loop-other c.loop-other.other ≡ false = here (goal.at.loop-other-preserved c).In-loop-other ∙ elim c.if-other-isn.branch [ then-other-isn w ↦ rw (sym w.1.ensures ∙ w.2.left) (and-false (not (eqb c.loop-other.other c.args.isn))) | else-other-isn w ↦ rw (eq-eqb _ _ w.if-other-isn.false) ] in (
+    let no : P (goal.at.loop-other-preserved c).In-loop-other c.loop-other.other ≡ false = here (goal.at.loop-other-preserved c).In-loop-other ∙ elim c.if-other-isn.branch [ then-other-isn+else-has_field w ↦ rw (sym w.has_field.ensures ∙ w.if-has_field.false) (and-false (not (eqb c.loop-other.other c.args.isn))) | else-other-isn w ↦ rw (eq-eqb _ _ w.if-other-isn.false) ] in (
       omega arith,
       rw c.loop-other.invariant.1 (slot_next c.args.size c.loop-other.other c.loop-other.invariant.0),
       c.loop-other.invariant.2 ∙ rw (more (goal.at.loop-other-preserved c).In-loop-other, no),

@@ -1,0 +1,2 @@
+-- Lemmas that one function's proof cites.
+mod Turns
