@@ -17,7 +17,7 @@ use Rattle.validity.specs.Laws.{valid_at}
 use Rattle.entries.specs.Entries.{entries}
 use Rattle.nucleus.specs.Commands.{direct_commands, command_of}
 use Rattle.nucleus.specs.Users.{fresh_user}
-use Rattle.nucleus.specs.Nucleus.{Nucleus, nucleus, Request, request, Result, result, max_capacity, beyond_data}
+use Rattle.nucleus.specs.Nucleus.{Nucleus, nucleus, Request, request, Result, resulting, max_capacity, beyond_data}
 use Rattle.nucleus.specs.Responses.{number}
 use Rattle.nucleus.specs.Target.{assigned_in}
 use Rattle.nucleus.specs.Waiters.{in_line, left_by}
@@ -103,10 +103,10 @@ module _ (capacity : ℕ) (call : Call) (format buffer : List ℕ) (s : State) (
       → (d : Done) (store'' queue'' images'' buffer'' : List ℕ)
       → left d store'' queue'' images'' buffer'' ≡ performed call capacity s.clock (share user held assigned s.count waits) s.definition store queue images format buffer c
       → (isns : List ℕ) → isns ≡ assigned_with s.last_assigned (place s.definition call.file) d.share.last_assigned
-      → result d.answer (nucleus (left_state d isns) store'' queue'' images'') buffer'' ≡ perform (request capacity c call format buffer) here
+      → resulting d.answer (nucleus (left_state d isns) store'' queue'' images'') buffer'' ≡ perform (request capacity c call format buffer) here
   unfolding with_share
   served c long shape v user held assigned waits same_user same_data same_assigned same_waits d store'' queue'' images'' buffer'' made isns same_isns =
-      ap (λ given. result d.answer (nucleus (left_state d given) store'' queue'' images'') buffer'') same_isns
+      ap (λ given. resulting d.answer (nucleus (left_state d given) store'' queue'' images'') buffer'') same_isns
       ∙ ap (left_on capacity call format buffer here) (made ∙ ap (λ x. performed call capacity s.clock x s.definition store queue images format buffer c) (λ i. share (same_user i) (same_data i) (same_assigned i) s.count (same_waits i)))
       ∙ sym (performed_is capacity call format buffer here long (small_record s.definition shape v call.file) c)
 
@@ -156,13 +156,13 @@ module _ (capacity : ℕ) (c : Command) (call : Call) (format buffer : List ℕ)
   abbrev noted : List ℕ → List ℕ
   noted out = going_words c call n.queue n.state.count (length out)
 
-  pub lined_through : (answer : Answer) (s : State) (store queue images buffer'' : List ℕ) → result answer (nucleus s store queue images) buffer'' ≡ perform r n
+  pub lined_through : (answer : Answer) (s : State) (store queue images buffer'' : List ℕ) → resulting answer (nucleus s store queue images) buffer'' ≡ perform r n
       → (out : List ℕ) → length out ≡ max_capacity → (words : List ℕ) (count : ℕ) → words ≡ sets out 0 (noted out) → count ≡ length (noted out)
       → (left : Standing) (queue' : List ℕ)
       → lined_by (entries words count) c call (number answer.response) (nucleus s store queue images) ≡ nucleus (lined_state s left) store queue' images
-      → result answer (nucleus (lined_state s left) store queue' images) buffer'' ≡ served_lined r n
+      → resulting answer (nucleus (lined_state s left) store queue' images) buffer'' ≡ served_lined r n
   unfolding after_line
   lined_through answer s store queue images buffer'' made out places words count same_words same_count left queue' line =
-      ap (λ m. result answer m buffer'')
+      ap (λ m. resulting answer m buffer'')
       (sym (lined_noted capacity c call format buffer n out places words count same_words same_count (number answer.response) (nucleus s store queue images) (nucleus (lined_state s left) store queue' images) line))
-      ∙ ap (λ (x : Result). result x.answer (lined r n (number x.answer.response) x.nucleus) x.buffer) made
+      ∙ ap (λ (x : Result). resulting x.answer (lined r n (number x.answer.response) x.nucleus) x.buffer) made

@@ -6,7 +6,7 @@ ghost use Rattle.std.specs.Prelude.{true, ◌≡◌, ◌≤◌, length};
 ghost use Rattle.layout.specs.Layout.{store_size, place};
 ghost use Rattle.nucleus.specs.Responses.{refused};
 ghost use Rattle.validity.specs.Validity.{valid};
-ghost use Rattle.nucleus.specs.Nucleus.{nucleus, request, result};
+ghost use Rattle.nucleus.specs.Nucleus.{nucleus, request, resulting};
 ghost use Rattle.nucleus.specs.Target.{assigned_in};
 ghost use Rattle.nucleus.specs.Step.{perform, step};
 ghost use Rattle.shares.specs.Shares.{assigned_with};
@@ -47,8 +47,8 @@ fn in_file(
 ) -> Done
     requires found_value { found ≡ place d call.file }
     requires d_in_bounds { store_size d ≤ length store.old }
-    ensures* { λ r. ⌜ left r store.new queue.new images.new buffer.new
-        ≡ in_file call most clock share d store.old queue.old images.old format.now buffer.old found command ⌝ }
+    ensures { left result store.new queue.new images.new buffer.new
+        ≡ in_file call most clock share d store.old queue.old images.old format.now buffer.old found command }
 {
     let Found::At(i) = found else {
         return shares::refused(Response::FileUnknown, share);
@@ -92,8 +92,8 @@ fn ri(
 ) -> Done
     requires found_value { found ≡ place d call.file }
     requires d_in_bounds { store_size d ≤ length store.old }
-    ensures* { λ r. ⌜ left r store.new queue.new images.new buffer.new
-        ≡ performed call most clock share d store.old queue.old images.old format.now buffer.old Ri ⌝ }
+    ensures { left result store.new queue.new images.new buffer.new
+        ≡ performed call most clock share d store.old queue.old images.old format.now buffer.old Ri }
 {
     if call.isn == 0 {
         let width = layout::image_length(d);
@@ -132,8 +132,8 @@ fn perform(
 ) -> Done
     requires found_value { found ≡ place d call.file }
     requires d_in_bounds { store_size d ≤ length store.old }
-    ensures* { λ r. ⌜ left r store.new queue.new images.new buffer.new
-        ≡ performed call most clock share d store.old queue.old images.old format.now buffer.old command ⌝ }
+    ensures { left result store.new queue.new images.new buffer.new
+        ≡ performed call most clock share d store.old queue.old images.old format.now buffer.old command }
 {
     match command {
         Command::Et => {
@@ -164,7 +164,7 @@ fn perform(
 }
 
 fn refused(cause: Response, state: State) -> Outcome
-    ensures* { λ r. ⌜ r ≡ outcome (refused cause) state ⌝ }
+    ensures { result ≡ outcome (refused cause) state }
 {
     Outcome {
         answer: Answer {
@@ -179,7 +179,7 @@ fn refused(cause: Response, state: State) -> Outcome
 
 // The ISN that N1 last gave in the file that was found.
 fn assigned_in(assigned: [u16; MAX_FILES], found: Found) -> u16
-    ensures* { λ r. ⌜ r ≡ assigned_in assigned found ⌝ }
+    ensures { result ≡ assigned_in assigned found }
 {
     let Found::At(i) = found else {
         return 0;
@@ -191,7 +191,7 @@ fn assigned_in(assigned: [u16; MAX_FILES], found: Found) -> u16
 }
 
 fn assigned_with(mut assigned: [u16; MAX_FILES], found: Found, isn: u16) -> [u16; MAX_FILES]
-    ensures* { λ r. ⌜ r ≡ assigned_with assigned found isn ⌝ }
+    ensures { result ≡ assigned_with assigned found isn }
 {
     let Found::At(i) = found else {
         return assigned;
@@ -217,8 +217,8 @@ fn serve(
     requires le_user { (1 ≤ call.user) × (call.user ≤ 32) }
     requires definition_value { valid state.definition ≡ true }
     requires definition_in_bounds { (store_size state.definition ≤ length store.old) × (capacity ≤ length queue.old) }
-    ensures* { λ r. ⌜ result r.answer (nucleus r.state store.new queue.new images.new) buffer.new
-        ≡ perform (request capacity command call format.now buffer.old) (nucleus state store.old queue.old images.old) ⌝ }
+    ensures { resulting result.answer (nucleus result.state store.new queue.new images.new) buffer.new
+        ≡ perform (request capacity command call format.now buffer.old) (nucleus state store.old queue.old images.old) }
 {
     let d = state.definition;
     let at = (call.user - 1) as usize;
@@ -275,8 +275,8 @@ fn serve_lined(
     requires le_user { (1 ≤ call.user) × (call.user ≤ 32) }
     requires definition_value { valid state.definition ≡ true }
     requires definition_in_bounds { (store_size state.definition ≤ length store.old) × (capacity ≤ length queue.old) }
-    ensures* { λ r. ⌜ result r.answer (nucleus r.state store.new queue.new images.new) buffer.new
-        ≡ served_lined (request capacity command call format.now buffer.old) (nucleus state store.old queue.old images.old) ⌝ }
+    ensures { resulting result.answer (nucleus result.state store.new queue.new images.new) buffer.new
+        ≡ served_lined (request capacity command call format.now buffer.old) (nucleus state store.old queue.old images.old) }
 {
     let mut words = [0u64; MAX_CAPACITY];
     let n = settling::let_go(command, call, queue, state.count, &mut words);
@@ -328,8 +328,8 @@ pub fn step(
     format: &[u8],
     buffer: &mut [u8],
 ) -> Outcome
-    ensures* { λ r. ⌜ result r.answer (nucleus r.state store.new queue.new images.new) buffer.new
-        ≡ step capacity call format.now buffer.old (nucleus state store.old queue.old images.old) ⌝ }
+    ensures { resulting result.answer (nucleus result.state store.new queue.new images.new) buffer.new
+        ≡ step capacity call format.now buffer.old (nucleus state store.old queue.old images.old) }
 {
     let usable = usability::usable(state, capacity, store, queue, images);
     if let Verdict::Refused(cause) = usable {

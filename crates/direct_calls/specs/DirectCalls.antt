@@ -2,7 +2,7 @@
 use Rattle.std.specs.Prelude.{ℕ, List, ◌++◌, map, take, drop}
 use Rattle.entries.specs.Entries.{pack_of, unpack_of}
 use Rattle.entries.specs.declared.Entry.{Entry}
-use Rattle.nucleus.specs.Nucleus.{Nucleus, nucleus, Result, result}
+use Rattle.nucleus.specs.Nucleus.{Nucleus, nucleus, Result, resulting}
 use Rattle.nucleus.specs.Step.{step}
 use Rattle.nucleus.specs.declared.Call.{Call}
 
@@ -16,7 +16,7 @@ unpacked_front n ws queue = map unpack_of (take n ws) ++ drop n queue
 
 -- the words that a call did not work on stay behind those that it left
 abbrev pub with_rest : List ℕ → Result → Result
-with_rest rest r = result r.answer (nucleus r.nucleus.state r.nucleus.store (r.nucleus.queue ++ rest) r.nucleus.images) r.buffer
+with_rest rest r = resulting r.answer (nucleus r.nucleus.state r.nucleus.store (r.nucleus.queue ++ rest) r.nucleus.images) r.buffer
 
 -- a call on the first n words
 abbrev pub on_words : ℕ → Call → List ℕ → List ℕ → Nucleus → Result

@@ -5,7 +5,7 @@ use Rattle.std.proofs.Common.{sym, ◌∙◌}
 use mathlib.Core.List.{List}
 use Rattle.std.proofs.Math.ListN.{length}
 use Rattle.entries.specs.declared.Entry.{Entry}
-use Rattle.nucleus.specs.Nucleus.{nucleus, Result, result}
+use Rattle.nucleus.specs.Nucleus.{nucleus, Result, resulting}
 use Rattle.nucleus.specs.declared.Call.{Call}
 use Rattle.nucleus.specs.declared.State.{State}
 use Rattle.calls.specs.declared.Outcome.{Outcome}
@@ -20,7 +20,7 @@ use Rattle.direct_calls.specs.Laws.{directly}
 
 -- thawed, called on the words, and what is left
 pub worked : (n : ℕ) (k : KeptState) (b : ControlBlock) (store ws images format buffer : List ℕ) (s : State) (c : Call) (o : Outcome) (l : Left) (store₂ ws₂ images₂ buffer₂ : List ℕ)
-    → s ≡ thawed k → c ≡ call_of b → result o.answer (nucleus o.state store₂ ws₂ images₂) buffer₂ ≡ on_words n c format buffer (nucleus s store ws images) → l ≡ left_by k b o.answer o.state
+    → s ≡ thawed k → c ≡ call_of b → resulting o.answer (nucleus o.state store₂ ws₂ images₂) buffer₂ ≡ on_words n c format buffer (nucleus s store ws images) → l ≡ left_by k b o.answer o.state
     → kept_result l store₂ ws₂ images₂ buffer₂ ≡ on_kept_words n k b store ws images format buffer
 unfolding on_kept_words
 worked n k b store ws images format buffer s c o l store₂ ws₂ images₂ buffer₂ es ec eo el =

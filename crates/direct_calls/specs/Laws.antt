@@ -7,7 +7,7 @@ use Rattle.std.proofs.lemmas.List.{length-map}
 use Rattle.lists.specs.Parts.{take_least, drop_least}
 use Rattle.entries.specs.Entries.{pack_of, unpack_of}
 use Rattle.entries.specs.declared.Entry.{Entry}
-use Rattle.nucleus.specs.Nucleus.{nucleus, Result, result}
+use Rattle.nucleus.specs.Nucleus.{nucleus, Result, resulting}
 use Rattle.nucleus.specs.Step.{step}
 use Rattle.nucleus.specs.declared.Answer.{Answer}
 use Rattle.nucleus.specs.declared.Call.{Call}
@@ -52,7 +52,7 @@ module _ (capacity : ℕ) (call : Call) (format buffer : List ℕ) (s : State) (
     on_front = step k call format buffer (nucleus s store (take k ws) images)
 
     pub directly : (answer : Answer) (s₂ : State) (store₂ : List ℕ) (queue₂ : List Entry) (images₂ buffer₂ : List ℕ)
-        → result answer (nucleus s₂ store₂ left images₂) buffer₂ ≡ on_words k call format buffer (nucleus s store ws images) → queue₂ ≡ unpacked_front k left queue
+        → resulting answer (nucleus s₂ store₂ left images₂) buffer₂ ≡ on_words k call format buffer (nucleus s store ws images) → queue₂ ≡ unpacked_front k left queue
         → reply answer (database s₂ store₂ queue₂ images₂) buffer₂ ≡ direct_call capacity call format buffer (database s store queue images)
     directly answer s₂ store₂ queue₂ images₂ buffer₂ called back =
         let left_is : left ≡ on_front.nucleus.queue ++ drop k ws = ap (λ (r : Result). r.nucleus.queue) called in

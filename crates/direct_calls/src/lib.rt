@@ -4,7 +4,7 @@
 
 ghost use Rattle.std.specs.Prelude.{◌≡◌, ◌≤◌, length};
 ghost use Rattle.database.specs.Database.{database, fitting, reply, direct_call, direct_place};
-ghost use Rattle.nucleus.specs.Nucleus.{nucleus, result};
+ghost use Rattle.nucleus.specs.Nucleus.{nucleus, resulting};
 ghost use Rattle.direct_calls.specs.DirectCalls.{packed_front, unpacked_front, on_words};
 ghost use Rattle.direct_calls.specs.Kept.{kept_result, on_kept_words, kept_reply, kept_call};
 ghost use Rattle.direct_calls.specs.Places.{place_on_words, kept_place_on_words, kept_place};
@@ -17,7 +17,7 @@ use nucleus::{Call, MAX_CAPACITY, State};
 
 // The entries that a call works on: the capacity, or none where that is more than a queue may have or than this one has. No call is served then.
 fn fitting(capacity: usize, size: usize) -> usize
-    ensures* { λ r. ⌜ r ≡ fitting capacity size ⌝ }
+    ensures { result ≡ fitting capacity size }
 {
     if MAX_CAPACITY < capacity {
         return 0;
@@ -31,7 +31,7 @@ fn fitting(capacity: usize, size: usize) -> usize
 // The first n entries, as words.
 fn words_out(queue: &[Entry], words: &mut [u64], n: usize)
     requires { (n ≤ length queue.now) × (n ≤ length words.old) }
-    ensures* { λ _. ⌜ words.new ≡ packed_front n queue.now words.old ⌝ }
+    ensures { words.new ≡ packed_front n queue.now words.old }
 {
     let mut i = 0;
     while i < n {
@@ -43,7 +43,7 @@ fn words_out(queue: &[Entry], words: &mut [u64], n: usize)
 // The first n words, as entries.
 fn words_in(queue: &mut [Entry], words: &[u64], n: usize)
     requires { (n ≤ length queue.old) × (n ≤ length words.now) }
-    ensures* { λ _. ⌜ queue.new ≡ unpacked_front n words.now queue.old ⌝ }
+    ensures { queue.new ≡ unpacked_front n words.now queue.old }
 {
     let mut i = 0;
     while i < n {
@@ -63,8 +63,8 @@ fn on_words(
     format: &[u8],
     buffer: &mut [u8],
 ) -> Outcome
-    ensures* { λ r. ⌜ result r.answer (nucleus r.state store.new words.new images.new) buffer.new
-        ≡ on_words n call format.now buffer.old (nucleus state store.old words.old images.old) ⌝ }
+    ensures { resulting result.answer (nucleus result.state store.new words.new images.new) buffer.new
+        ≡ on_words n call format.now buffer.old (nucleus state store.old words.old images.old) }
 {
     let end = slices::least(n, words.len());
     calls::step(
@@ -90,8 +90,8 @@ fn on_kept_words(
     format: &[u8],
     buffer: &mut [u8],
 ) -> Left
-    ensures* { λ r. ⌜ kept_result r store.new words.new images.new buffer.new
-        ≡ on_kept_words n state block store.old words.old images.old format.now buffer.old ⌝ }
+    ensures { kept_result result store.new words.new images.new buffer.new
+        ≡ on_kept_words n state block store.old words.old images.old format.now buffer.old }
 {
     let thawed = kept_states::thawed(state);
     let call = kept_states::call_of(block);
@@ -112,8 +112,8 @@ pub fn direct_call(
     format: &[u8],
     buffer: &mut [u8],
 ) -> Outcome
-    ensures* { λ r. ⌜ reply r.answer (database r.state store.new queue.new images.new) buffer.new
-        ≡ direct_call capacity call format.now buffer.old (database state store.old queue.old images.old) ⌝ }
+    ensures { reply result.answer (database result.state store.new queue.new images.new) buffer.new
+        ≡ direct_call capacity call format.now buffer.old (database state store.old queue.old images.old) }
 {
     let n = fitting(capacity, queue.len());
     let mut words = [0u64; MAX_CAPACITY];
@@ -134,8 +134,8 @@ pub fn kept_call(
     format: &[u8],
     buffer: &mut [u8],
 ) -> Left
-    ensures* { λ r. ⌜ kept_reply r store.new queue.new images.new buffer.new
-        ≡ kept_call capacity state block store.old queue.old images.old format.now buffer.old ⌝ }
+    ensures { kept_reply result store.new queue.new images.new buffer.new
+        ≡ kept_call capacity state block store.old queue.old images.old format.now buffer.old }
 {
     let n = fitting(capacity, queue.len());
     let mut words = [0u64; MAX_CAPACITY];
@@ -155,7 +155,7 @@ fn place_on_words(
     words: &[u64],
     images: &[u8],
 ) -> Place
-    ensures* { λ r. ⌜ r ≡ place_on_words n state file isn store.now words.now images.now ⌝ }
+    ensures { result ≡ place_on_words n state file isn store.now words.now images.now }
 {
     let end = slices::least(n, words.len());
     committed_places::committed_place(state, n, file, isn, store, &words[..end], images)
@@ -171,7 +171,7 @@ fn kept_place_on_words(
     words: &[u64],
     images: &[u8],
 ) -> Place
-    ensures* { λ r. ⌜ r ≡ kept_place_on_words n state file isn store.now words.now images.now ⌝ }
+    ensures { result ≡ kept_place_on_words n state file isn store.now words.now images.now }
 {
     let thawed = kept_states::thawed(state);
     place_on_words(thawed, n, file, isn, store, words, images)
@@ -187,7 +187,7 @@ pub fn direct_place(
     queue: &[Entry],
     images: &[u8],
 ) -> Place
-    ensures* { λ r. ⌜ r ≡ direct_place capacity (database state store.now queue.now images.now) file isn ⌝ }
+    ensures { result ≡ direct_place capacity (database state store.now queue.now images.now) file isn }
 {
     let n = fitting(capacity, queue.len());
     let mut words = [0u64; MAX_CAPACITY];
@@ -205,7 +205,7 @@ pub fn kept_place(
     queue: &[Entry],
     images: &[u8],
 ) -> Place
-    ensures* { λ r. ⌜ r ≡ kept_place capacity state file isn store.now queue.now images.now ⌝ }
+    ensures { result ≡ kept_place capacity state file isn store.now queue.now images.now }
 {
     let n = fitting(capacity, queue.len());
     let mut words = [0u64; MAX_CAPACITY];

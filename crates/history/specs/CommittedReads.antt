@@ -12,7 +12,7 @@ use Rattle.entries.specs.declared.Entry.{Entry}
 use Rattle.committed.specs.Committed.{committed_version, version_there, version_bytes}
 use Rattle.nucleus.specs.Commands.{direct_commands, command_of, option_C}
 use Rattle.nucleus.specs.Responses.{number, waiting_number}
-use Rattle.nucleus.specs.Nucleus.{Nucleus, Given, Request, request, Result, result, entries_of, width_of, change_user}
+use Rattle.nucleus.specs.Nucleus.{Nucleus, Given, Request, request, Result, resulting, entries_of, width_of, change_user}
 use Rattle.nucleus.specs.Users.{opened}
 use Rattle.nucleus.specs.Clock.{clocked}
 use Rattle.nucleus.specs.Waiters.{joined_line, change_line, left_by, let_go, lets_go, handed}
@@ -148,11 +148,11 @@ module _ (capacity : ℕ) (g : Given) (option : g.call.option ≡ option_C) (que
       m : Nucleus
       m = x.nucleus
 
-      as_read : ReadsLeft capacity queue g (result x.answer m x.buffer)
+      as_read : ReadsLeft capacity queue g (resulting x.answer m x.buffer)
       as_read = record { there = q.there; fields_read = q.fields_read; not_there = q.not_there }
 
       go : (joins good : Bool)
-          → ReadsLeft capacity queue g (result x.answer (cond joins (change_line (joined_line L1 g.call) m) (cond (good && false) (handed (let_go (lets_go L1 g.call) n) m) m)) x.buffer)
+          → ReadsLeft capacity queue g (resulting x.answer (cond joins (change_line (joined_line L1 g.call) m) (cond (good && false) (handed (let_go (lets_go L1 g.call) n) m) m)) x.buffer)
       go true good = record { there = q.there; fields_read = q.fields_read; not_there = q.not_there }
       go false true = as_read
       go false false = as_read

@@ -17,7 +17,7 @@ use Rattle.removal.specs.declared.Removal.TheVariants.{One, Unchanged, All}
 use Rattle.nucleus.specs.Commands.{option_A}
 use Rattle.nucleus.specs.Users.{max_sequence, set_session, closed, counted, started, made_ready, ended}
 use Rattle.nucleus.specs.Responses.{good}
-use Rattle.nucleus.specs.Nucleus.{Nucleus, Request, Result, result, data_at, with_data, with_last_assigned, with_count, with_state, with_store, width_of, user_of, change_user}
+use Rattle.nucleus.specs.Nucleus.{Nucleus, Request, Result, resulting, data_at, with_data, with_last_assigned, with_count, with_state, with_store, width_of, user_of, change_user}
 use Rattle.nucleus.specs.Clock.{removed, backed_out}
 use Rattle.nucleus.specs.Target.{is_holder, store_with, file_place, file, part, record_at, holder_of, target_isn, version_read, new_record}
 use Rattle.nucleus.specs.declared.Answer.{Answer}
@@ -96,7 +96,7 @@ module _ (r : Request) where
   -- ---- results
   -- a command that writes nothing into the record buffer
   abbrev pub leaving : Answer → Nucleus → Result
-  leaving a n = result a n r.buffer
+  leaving a n = resulting a n r.buffer
 
   -- entries that went
   abbrev pub gone : Nucleus → Nucleus → ℕ
@@ -105,7 +105,7 @@ module _ (r : Request) where
   -- "Quantity: bytes written, at the front of the record buffer"
   abbrev pub read_at : ℕ → Nucleus → Nucleus → Result
   read_at isn n m =
-      result (good isn (length_needed (file r n) r.format) 0) m
+      resulting (good isn (length_needed (file r n) r.format) 0) m
       (read_fields (file r n) r.format (version_bytes (file r n) (part r n) n.images (width_of n) (version_read r n isn) isn) r.buffer)
 
   -- "RI drops the user's unchanged entry; ISN 0 drops all of his unchanged ones, in every file, and skips the changed"
@@ -127,7 +127,7 @@ module _ (r : Request) where
   effect_at isn N2 n = leaving (good isn 0 0) (written isn n)
   effect_at isn Et n = leaving (good 0 (gone n (ended_for n)) (next_sequence n)) (ended_for n)
   effect_at isn Bt n = leaving (good 0 (gone n (backed_out user n)) 0) (backed_out user n)
-  effect_at isn Re n = result (good 0 (data_at n.state user).length 0) n (sets r.buffer 0 (data_bytes n))
+  effect_at isn Re n = resulting (good 0 (data_at n.state user).length 0) n (sets r.buffer 0 (data_bytes n))
   effect_at isn Op n = leaving (good 0 0 0) (change_user user (set_session r.call.isn r.call.limit (eqb r.call.option option_A)) n)
   effect_at isn Cl n = leaving (good 0 0 (user_of n user).sequence) (change_user user closed n)
   effect_at isn Pe n = leaving (good 0 0 0) (change_user user made_ready n)

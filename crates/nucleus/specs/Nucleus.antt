@@ -50,8 +50,8 @@ pub record Result : Type 0 where
   pub nucleus : Nucleus
   pub buffer : List ℕ
 
-abbrev pub result : Answer → Nucleus → List ℕ → Result
-result answer n buffer = record { answer = answer; nucleus = n; buffer = buffer }
+abbrev pub resulting : Answer → Nucleus → List ℕ → Result
+resulting answer n buffer = record { answer = answer; nucleus = n; buffer = buffer }
 
 -- ---- limits
 abbrev pub max_users : ℕ

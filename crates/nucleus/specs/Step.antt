@@ -12,7 +12,7 @@ use Rattle.reading.specs.declared.End.TheVariants.{At, Broken}
 use Rattle.nucleus.specs.Commands.{direct_commands, command_of, one_of, letting_go}
 use Rattle.nucleus.specs.Users.{opened, with_overdue}
 use Rattle.nucleus.specs.Responses.{number, waiting_number, refused}
-use Rattle.nucleus.specs.Nucleus.{Nucleus, nucleus, Request, request, Result, result, fresh_state, change_user}
+use Rattle.nucleus.specs.Nucleus.{Nucleus, nucleus, Request, request, Result, resulting, fresh_state, change_user}
 use Rattle.nucleus.specs.WellMade.{too_short}
 use Rattle.nucleus.specs.Waiters.{joined_line, change_line, left_by, let_go, lets_go, handed}
 use Rattle.nucleus.specs.Clock.{forced_out, clocked}
@@ -59,7 +59,7 @@ admitted served capacity call n =
 
 -- ---- one call
 abbrev pub refusal : List ℕ → Nucleus → Response → Result
-refusal buffer n cause = result (refused cause) n buffer
+refusal buffer n cause = resulting (refused cause) n buffer
 
 -- refused with a cause, where there is one; else what follows
 abbrev pub unless : Option Response → (Response → Result) → Result → Result
@@ -77,7 +77,7 @@ lined r before response n =
     (cond (eqb response 0 && one_of letting_go r.command) (handed (let_go (lets_go r.command r.call) before) n) n)
 
 unfoldable pub after_line : Request → Nucleus → Result → Result
-after_line r before x = result x.answer (lined r before (number x.answer.response) x.nucleus) x.buffer
+after_line r before x = resulting x.answer (lined r before (number x.answer.response) x.nucleus) x.buffer
 
 abbrev pub serve : Admission → ℕ → Call → List ℕ → List ℕ → Result
 serve (turned_away cause n) capacity call format buffer = refusal buffer n cause

@@ -15,7 +15,7 @@ use Rattle.records.specs.declared.Found.{Found}
 use Rattle.records.specs.declared.Found.TheVariants.{At, Nowhere}
 use Rattle.nucleus.specs.Responses.{refused}
 use Rattle.nucleus.specs.Users.{fresh_user}
-use Rattle.nucleus.specs.Nucleus.{Nucleus, nucleus, Request, Result, result, beyond_data, with_user, with_data, with_last_assigned, with_count}
+use Rattle.nucleus.specs.Nucleus.{Nucleus, nucleus, Request, Result, resulting, beyond_data, with_user, with_data, with_last_assigned, with_count}
 use Rattle.nucleus.specs.Target.{assigned_in}
 use Rattle.nucleus.specs.Rows.{Row, first_cause, rows_last}
 use Rattle.nucleus.specs.Effects.{effect}
@@ -31,7 +31,7 @@ use Rattle.shares.specs.declared.Done.{Done}
 
 -- what a command gives back, on the nucleus that it was called on
 abbrev pub result_on : Call → Nucleus → Done → List ℕ → List ℕ → List ℕ → List ℕ → Result
-result_on call n d store queue images buffer = result d.answer (nucleus (with_share call d.share n.state) store queue images) buffer
+result_on call n d store queue images buffer = resulting d.answer (nucleus (with_share call d.share n.state) store queue images) buffer
 
 -- ---- a share that is put back
 module _ (call : Call) (s : State) where
@@ -155,5 +155,5 @@ module _ (call : Call) (n : Nucleus) where
       → (c ≡ none → effect r n ≡ result_on call n d store queue images after)
       → perform r n ≡ result_on call n (done_unless c (share_of call n.state) d) (kept_by c n.store store) (kept_by c n.queue queue) (kept_by c n.images images) (kept_by c r.buffer after)
   unfolding perform
-  performed_as r (some cause) d store queue images after e f = rw e (ap (λ m. result (refused cause) m r.buffer) nothing_done)
+  performed_as r (some cause) d store queue images after e f = rw e (ap (λ m. resulting (refused cause) m r.buffer) nothing_done)
   performed_as r none d store queue images after e f = rw e (f refl)

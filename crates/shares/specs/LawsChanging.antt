@@ -26,7 +26,7 @@ use Rattle.search.specs.declared.Occupied.{Occupied}
 use Rattle.search.specs.declared.Occupied.TheVariants.{At, Nowhere}
 use Rattle.committed.specs.Committed.{version_there}
 use Rattle.nucleus.specs.Responses.{good}
-use Rattle.nucleus.specs.Nucleus.{Nucleus, nucleus, Request, request, result, entries_of, width_of}
+use Rattle.nucleus.specs.Nucleus.{Nucleus, nucleus, Request, request, resulting, entries_of, width_of}
 use Rattle.nucleus.specs.Target.{part_in, is_isn, isn_in, file, part, record_at, holder_of, target, new_record}
 use Rattle.nucleus.specs.Rows.{Row, row, first_cause, rows_last, file_unknown, isn_invalid, format_refused, field_twice, record_length_refused, value_refused, none_found, held_elsewhere, waits, presence_refused, not_held, release_refused, file_full, limit_reached, queue_full, value_taken}
 use Rattle.nucleus.specs.Effects.{imaged, imaged_at, with_part_of, with_last, written, erased, effect, effect_at}
@@ -138,12 +138,12 @@ module _ (capacity : ℕ) (call : Call) (format buffer : List ℕ) (n : Nucleus)
       performed_by : (c : Command) (cause : Option Response) (new : List ℕ)
           → first_cause (rows_last (request capacity c call format buffer) n) ≡ cause
           → (cause ≡ none → Room capacity call format buffer n call.isn)
-          → (effect (request capacity c call format buffer) n ≡ result (good call.isn 0 0) (with_part_of (request capacity c call format buffer) new (imaged (request capacity c call format buffer) call.isn n)) buffer)
+          → (effect (request capacity c call format buffer) n ≡ resulting (good call.isn 0 0) (with_part_of (request capacity c call format buffer) new (imaged (request capacity c call format buffer) call.isn n)) buffer)
           → Performed c cause new
       performed_by c cause new e room made =
           rw (kept_same cause buffer) at
           (performed_as call n (request capacity c call format buffer) cause _ _ _ _ buffer e
-          (λ passed. made ∙ ap (λ k. result (good call.isn 0 0) k buffer) (changed_is call.isn (room passed) c new)))
+          (λ passed. made ∙ ap (λ k. resulting (good call.isn 0 0) k buffer) (changed_is call.isn (room passed) c new)))
 
       -- ---- E1
       e1_cause_is : first_cause (rows_last (request capacity E1 call format buffer) n) ≡ e1_cause call x n.queue f p capacity
@@ -198,7 +198,7 @@ module _ (capacity : ℕ) (call : Call) (format buffer : List ℕ) (n : Nucleus)
 
     -- the effect at an ISN
     n1_made : (isn : ℕ) → effect_at (request capacity N1 call format buffer) isn N1 n
-        ≡ result (good isn 0 0)
+        ≡ resulting (good isn 0 0)
         (with_last (request capacity N1 call format buffer) (found_at.At i) isn
         (with_part_of (request capacity N1 call format buffer) (put_record f p isn (added f p format buffer isn)) (imaged (request capacity N1 call format buffer) isn n)))
         buffer
@@ -232,5 +232,5 @@ module _ (capacity : ℕ) (call : Call) (format buffer : List ℕ) (n : Nucleus)
           rw (kept_same n1_refused buffer) at
           (performed_as call n (request capacity N1 call format buffer) n1_refused _ _ _ _ buffer n1_cause_is
           (λ passed. ap (λ o. effect_at r (isn_in o) N1 n) free_target ∙ n1_made isn
-          ∙ ap (λ k. result (good isn 0 0) (with_last r (found_at.At i) isn k) buffer) (changed_is isn (n1_room passed) N1 (put_record f p isn (added f p format buffer isn)))
-          ∙ ap (λ k. result (good isn 0 0) k buffer) (on_state (assigned_back call n.state i there (held_share call x n.queue n.state.clock isn) isn))))
+          ∙ ap (λ k. resulting (good isn 0 0) (with_last r (found_at.At i) isn k) buffer) (changed_is isn (n1_room passed) N1 (put_record f p isn (added f p format buffer isn)))
+          ∙ ap (λ k. resulting (good isn 0 0) k buffer) (on_state (assigned_back call n.state i there (held_share call x n.queue n.state.clock isn) isn))))

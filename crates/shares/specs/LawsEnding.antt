@@ -8,7 +8,7 @@ use Rattle.hold.specs.Hold.{restore}
 use Rattle.removal.specs.declared.Removal.TheVariants.{All}
 use Rattle.nucleus.specs.Users.{closed, counted, made_ready, ended}
 use Rattle.nucleus.specs.Responses.{good}
-use Rattle.nucleus.specs.Nucleus.{Nucleus, request, result, width_of}
+use Rattle.nucleus.specs.Nucleus.{Nucleus, request, resulting, width_of}
 use Rattle.nucleus.specs.Clock.{removed, backed_out}
 use Rattle.nucleus.specs.Target.{target}
 use Rattle.nucleus.specs.Rows.{first_cause, rows_last, file_unknown, isn_invalid, format_refused, field_twice, record_length_refused, value_refused, none_found, held_elsewhere, waits, presence_refused, not_held, release_refused, file_full, limit_reached, queue_full, value_taken}
@@ -40,7 +40,7 @@ module _ (capacity : ℕ) (call : Call) (format buffer : List ℕ) (n : Nucleus)
       let left = left_count x n.queue n.images (width_of n) (All call.user) in
       rw (kept_same c n.store, kept_same c buffer) at
       (performed_as call n (request capacity Et call format buffer) c _ n.store _ _ buffer et_cause_is
-      (λ passed. ap (λ k. result (good 0 (gone x n.queue n.images (width_of n) (All call.user)) (next_sequence x)) k buffer)
+      (λ passed. ap (λ k. resulting (good 0 (gone x n.queue n.images (width_of n) (All call.user)) (next_sequence x)) k buffer)
       (on_state (share_back call n.state (ended (counted (next_sequence x) x.user)) (data_brought x buffer) left))))
 
   -- ---- RE
@@ -54,7 +54,7 @@ module _ (capacity : ℕ) (call : Call) (format buffer : List ℕ) (n : Nucleus)
       let c = re_cause x.et_data buffer in
       rw (kept_same c n.store, kept_same c n.queue, kept_same c n.images) at
       (performed_as call n (request capacity Re call format buffer) c _ n.store n.queue n.images _ re_cause_is
-      (λ passed. ap (λ k. result (good 0 x.et_data.length 0) k (re_buffer x.et_data buffer)) (nothing_done call n)))
+      (λ passed. ap (λ k. resulting (good 0 x.et_data.length 0) k (re_buffer x.et_data buffer)) (nothing_done call n)))
 
   -- ---- BT, OP, CL, PE: no row refuses them
   pub perform_bt : perform (request capacity Bt call format buffer) n
@@ -65,22 +65,22 @@ module _ (capacity : ℕ) (call : Call) (format buffer : List ℕ) (n : Nucleus)
   perform_bt =
       let left = left_count x n.queue n.images (width_of n) (All call.user) in
       performed_as call n (request capacity Bt call format buffer) none _ _ _ _ buffer refl
-      (λ passed. ap (λ k. result (good 0 (gone x n.queue n.images (width_of n) (All call.user)) 0) k buffer) (on_state (user_back call n.state (ended x.user) left)))
+      (λ passed. ap (λ k. resulting (good 0 (gone x n.queue n.images (width_of n) (All call.user)) 0) k buffer) (on_state (user_back call n.state (ended x.user) left)))
 
   pub perform_op : perform (request capacity Op call format buffer) n ≡ result_on call n (op_done call x) n.store n.queue n.images buffer
   unfolding file_unknown isn_invalid format_refused field_twice record_length_refused value_refused none_found held_elsewhere waits presence_refused not_held release_refused file_full limit_reached queue_full value_taken target effect_at
   perform_op =
       performed_as call n (request capacity Op call format buffer) none _ n.store n.queue n.images buffer refl
-      (λ passed. ap (λ k. result (good 0 0 0) k buffer) (on_state (user_back call n.state (op_done call x).share.user n.state.count)))
+      (λ passed. ap (λ k. resulting (good 0 0 0) k buffer) (on_state (user_back call n.state (op_done call x).share.user n.state.count)))
 
   pub perform_cl : perform (request capacity Cl call format buffer) n ≡ result_on call n (cl_done x) n.store n.queue n.images buffer
   unfolding file_unknown isn_invalid format_refused field_twice record_length_refused value_refused none_found held_elsewhere waits presence_refused not_held release_refused file_full limit_reached queue_full value_taken target effect_at
   perform_cl =
       performed_as call n (request capacity Cl call format buffer) none _ n.store n.queue n.images buffer refl
-      (λ passed. ap (λ k. result (good 0 0 x.user.sequence) k buffer) (on_state (user_back call n.state (closed x.user) n.state.count)))
+      (λ passed. ap (λ k. resulting (good 0 0 x.user.sequence) k buffer) (on_state (user_back call n.state (closed x.user) n.state.count)))
 
   pub perform_pe : perform (request capacity Pe call format buffer) n ≡ result_on call n (pe_done x) n.store n.queue n.images buffer
   unfolding file_unknown isn_invalid format_refused field_twice record_length_refused value_refused none_found held_elsewhere waits presence_refused not_held release_refused file_full limit_reached queue_full value_taken target effect_at
   perform_pe =
       performed_as call n (request capacity Pe call format buffer) none _ n.store n.queue n.images buffer refl
-      (λ passed. ap (λ k. result (good 0 0 0) k buffer) (on_state (user_back call n.state (made_ready x.user) n.state.count)))
+      (λ passed. ap (λ k. resulting (good 0 0 0) k buffer) (on_state (user_back call n.state (made_ready x.user) n.state.count)))

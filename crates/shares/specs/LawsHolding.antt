@@ -16,7 +16,7 @@ use Rattle.removal.specs.declared.Removal.{Removal}
 use Rattle.removal.specs.declared.Removal.TheVariants.{One, Unchanged}
 use Rattle.nucleus.specs.Responses.{good}
 use Rattle.nucleus.specs.Users.{started}
-use Rattle.nucleus.specs.Nucleus.{Nucleus, nucleus, Request, request, Result, result, width_of}
+use Rattle.nucleus.specs.Nucleus.{Nucleus, nucleus, Request, request, Result, resulting, width_of}
 use Rattle.nucleus.specs.Clock.{removed}
 use Rattle.nucleus.specs.Target.{is_holder, target, record_at, holder_of}
 use Rattle.nucleus.specs.Rows.{Row, row, first_cause, rows_last, file_unknown, isn_invalid, format_refused, field_twice, record_length_refused, value_refused, none_found, held_elsewhere, waits, presence_refused, not_held, release_refused, file_full, limit_reached, queue_full, value_taken}
@@ -82,8 +82,8 @@ module _ (capacity : ℕ) (call : Call) (format buffer : List ℕ) (n : Nucleus)
   unfolding effect_at target removed
   released_is = go (outcome (eqb call.isn 0))
     where
-      leaves : (which : Removal) → result (released_done which).answer (removed which n) buffer ≡ left_on which
-      leaves which = ap (λ m. result (released_done which).answer m buffer) (on_state (count_back call n.state (left_count x n.queue n.images (width_of n) which)))
+      leaves : (which : Removal) → resulting (released_done which).answer (removed which n) buffer ≡ left_on which
+      leaves which = ap (λ m. resulting (released_done which).answer m buffer) (on_state (count_back call n.state (left_count x n.queue n.images (width_of n) which)))
 
       go : Outcome (eqb call.isn 0) → effect ri n ≡ left_on (released call)
       go (holds z) = rw z (leaves (Unchanged call.user))

@@ -18,7 +18,7 @@ use Rattle.search.specs.Search.{lowest}
 use Rattle.search.specs.declared.Occupied.{Occupied}
 use Rattle.search.specs.declared.Occupied.TheVariants.{At, Nowhere}
 use Rattle.nucleus.specs.Commands.{option_I}
-use Rattle.nucleus.specs.Nucleus.{Nucleus, request, Result, result, width_of}
+use Rattle.nucleus.specs.Nucleus.{Nucleus, request, Result, resulting, width_of}
 use Rattle.nucleus.specs.Responses.{good}
 use Rattle.nucleus.specs.Target.{target}
 use Rattle.nucleus.specs.Rows.{first_cause, rows_last, file_unknown, isn_invalid, format_refused, field_twice, record_length_refused, value_refused, none_found, held_elsewhere, waits, presence_refused, not_held, release_refused, file_full, limit_reached, queue_full, value_taken}
@@ -46,7 +46,7 @@ module _ (capacity : ℕ) (call : Call) (format buffer : List ℕ) (n : Nucleus)
 
   -- an answered reading
   abbrev read_on : List ℕ → Nucleus → Result
-  read_on after m = result (good (sought_isn call f p) (length_needed f format) 0) m after
+  read_on after m = resulting (good (sought_isn call f p) (length_needed f format) 0) m after
 
   -- what L1 writes
   abbrev l1_after : List ℕ

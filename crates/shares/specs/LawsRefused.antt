@@ -9,7 +9,7 @@ use Rattle.layout.specs.Layout.{place}
 use Rattle.records.specs.declared.Found.TheVariants.{At, Nowhere}
 use Rattle.nucleus.specs.Commands.{one_of, on_file, at_given_isn, reading_values, option_I}
 use Rattle.nucleus.specs.Responses.{refused}
-use Rattle.nucleus.specs.Nucleus.{Nucleus, request, result}
+use Rattle.nucleus.specs.Nucleus.{Nucleus, request, resulting}
 use Rattle.nucleus.specs.Rows.{file_unknown, isn_invalid}
 use Rattle.nucleus.specs.Step.{perform, refusal}
 use Rattle.nucleus.specs.declared.Call.{Call}
@@ -23,7 +23,7 @@ use Rattle.shares.specs.Laws.{result_on, nothing_done}
 -- a refusal gives the share back as it was
 pub refusal_is : (call : Call) (buffer : List ℕ) (n : Nucleus) (cause : Response)
     → refusal buffer n cause ≡ result_on call n (done (refused cause) (share_of call n.state)) n.store n.queue n.images buffer
-refusal_is call buffer n cause = ap (λ m. result (refused cause) m buffer) (nothing_done call n)
+refusal_is call buffer n cause = ap (λ m. resulting (refused cause) m buffer) (nothing_done call n)
 
 module _ (capacity : ℕ) (call : Call) (format buffer : List ℕ) (n : Nucleus) (c : Command) (one : (one_of (Ri ∷ []) c && eqb call.isn 0) ≡ false) where
   -- 17; `one`: not RI of ISN 0

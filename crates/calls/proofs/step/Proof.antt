@@ -9,7 +9,7 @@ use mathlib.Core.Option.{none}
 use Rattle.lists.specs.Tests.{within_least, within_most}
 use Rattle.layout.specs.Layout.{store_size}
 use Rattle.nucleus.specs.Commands.{direct_commands}
-use Rattle.nucleus.specs.Nucleus.{Nucleus, nucleus, Result, result}
+use Rattle.nucleus.specs.Nucleus.{Nucleus, nucleus, Result, resulting}
 use Rattle.nucleus.specs.WellMade.{too_short}
 use Rattle.nucleus.specs.Rows.{first_cause, rows_usable}
 use Rattle.nucleus.specs.Responses.{refused}
@@ -31,9 +31,9 @@ use Rattle.calls.proofs.step.Tie as tie
 
 -- a refusal that the code gives back
 given_back : (state : State) (store queue images buffer : List ℕ) (cause : Response) (o : Outcome) (whole : Result)
-    → o ≡ outcome (refused cause) state → result (refused cause) (nucleus state store queue images) buffer ≡ whole
-    → result o.answer (nucleus o.state store queue images) buffer ≡ whole
-given_back state store queue images buffer cause o whole e same = ap (λ (o : Outcome). result o.answer (nucleus o.state store queue images) buffer) e ∙ same
+    → o ≡ outcome (refused cause) state → resulting (refused cause) (nucleus state store queue images) buffer ≡ whole
+    → resulting o.answer (nucleus o.state store queue images) buffer ≡ whole
+given_back state store queue images buffer cause o whole e same = ap (λ (o : Outcome). resulting o.answer (nucleus o.state store queue images) buffer) e ∙ same
 
 abbrev entry : tie.After-admit → tie.Start
 entry k = k.before.before.before.before.before.before.before.before.before.before.before.before.before.before.before.before.before.before.before.before.before.before

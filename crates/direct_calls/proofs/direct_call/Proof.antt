@@ -44,7 +44,7 @@ use denote.Triple.Spec.{Meets, triple_of}
 use denote.Triple.Table.{entered, cited}
 use denote.Triple.Walked.{says, Stays, stay_slice, stay_dropped, gave_slice, walk_of, Goes-slice, Goes-dropped, Goes-gave_slice, Walks, ends_at, walked, walk_Meets}
 use denote.Exit.{yes}
-use Rattle.nucleus.specs.Nucleus.{nucleus, result}
+use Rattle.nucleus.specs.Nucleus.{nucleus, resulting}
 use Rattle.database.specs.Database.{fitting, database, reply, direct_call}
 use Rattle.direct_calls.specs.DirectCalls.{packed_front, unpacked_front, on_words}
 use Rattle.direct_calls.specs.Laws.{directly}
@@ -255,7 +255,7 @@ module _ {M : Type 1} {𝓤 : Ura M} (𝓛 : Logic 𝓤) (mem : Memory → SProp
         -- the call on the words
         assigns ! (addr ! (from ! (fld ! refl (hop ! (look_in ! 54 (sub ! 0 refl (whole !))) (stop !))))) (from ! (stop !)) (init ! 27 refl (tt, tt)) $ assigns ! (agg ! (and_then ! (load ! (from ! (stop !)) (look ! 27 refl)) (and_then ! (load ! (from ! (fld ! refl (stop !))) (look_in ! 54 (sub ! 1 refl (whole !)))) (no_more !)))) (from ! (stop !)) (init ! 25 refl (tt, (tt, (record { fits = g_store.0 }, tt)))) $ assigns ! (addr ! (from ! (stop !))) (from ! (stop !)) (init ! 23 refl (tt, tt)) $ assigns ! (agg ! (and_then ! (load ! (from ! (stop !)) (look ! 23 refl)) (and_then ! (lit ! tt) (no_more !)))) (from ! (stop !)) (init ! 21 refl (tt, (tt, (record { fits = lit< tt }, tt)))) $ rewrite ! 21 (λ (m : ℕ). ‵ (fat full_share (slice_ty (ty_ref erased mut word)) l₂₁ 0 (slice_val (l₁₀, 0) m))) (sym (long₁ ∙ len₀)) refl $
         assigns ! (addr ! (from ! (fld ! refl (hop ! (look_in ! 50 (sub ! 0 refl (whole !))) (stop !))))) (from ! (stop !)) (init ! 19 refl (tt, tt)) $ assigns ! (agg ! (and_then ! (load ! (from ! (stop !)) (look ! 19 refl)) (and_then ! (load ! (from ! (fld ! refl (stop !))) (look_in ! 50 (sub ! 1 refl (whole !)))) (no_more !)))) (from ! (stop !)) (init ! 17 refl (tt, (tt, (record { fits = g_images.0 }, tt)))) $ assigns ! (addr ! (from ! (fld ! refl (hop ! (look_in ! 46 (sub ! 0 refl (whole !))) (stop !))))) (from ! (stop !)) (init ! 15 refl (tt, tt)) $ assigns ! (agg ! (and_then ! (load ! (from ! (stop !)) (look ! 15 refl)) (and_then ! (load ! (from ! (fld ! refl (stop !))) (look_in ! 46 (sub ! 1 refl (whole !)))) (no_more !)))) (from ! (stop !)) (init ! 13 refl (tt, (tt, (record { fits = g_buffer.0 }, tt)))) $ lft_new ! tt (λ ν. move ! (1 ∷ []) $ lend_row ! tt u64 (named 1) (ν ∷ []) z₁.1.0 l₁₀ 0 (room_of z₁.1.0 (long₁ ∙ len₀)) (λ δ. move ! (69 ∷ 2 ∷ 68 ∷ 67 ∷ 0 ∷ 66 ∷ []) $ move ! (4 ∷ 5 ∷ []) $ join ! $ move ! (4 ∷ 0 ∷ []) $ join ! $ move ! (3 ∷ 0 ∷ []) $ join ! $ move ! (2 ∷ 0 ∷ []) $ join ! $ move ! (1 ∷ 0 ∷ []) $ join ! $ use1 𝓛 (raw ((Callee 𝓛 mem run).pre (to_callee l₁₀ ν δ z₁.1.0 n))) (goes_callee l₁₀ ν δ z₁.1.0 n is_n.1) $
-        calls_at ! fm (Callee 𝓛 mem run) known_callee (to_callee l₁₀ ν δ z₁.1.0 n) (and_then ! (load ! (from ! (stop !)) (look ! 61 refl)) (and_then ! (load ! (from ! (stop !)) (look ! 45 refl)) (and_then ! (load ! (from ! (stop !)) (look ! 57 refl)) (and_then ! (load ! (from ! (stop !)) (look ! 26 refl)) (and_then ! (load ! (from ! (stop !)) (look ! 22 refl)) (and_then ! (load ! (from ! (stop !)) (look ! 18 refl)) (and_then ! (load ! (from ! (stop !)) (look ! 49 refl)) (and_then ! (load ! (from ! (stop !)) (look ! 14 refl)) (no_more !))))))))) (λ v₃. use1 𝓛 (later (some (λ (r : Outcome). ((‵ (flft κ₀ q₀) ⊛ ‵ (flft (ν ∷ []) full_share) ⊛ ‵ (flft κ₂ q₂) ⊛ ‵ (flft κ₃ q₃) ⊛ ‵ (flft κ₄ q₄) ⊛ ‵ ftrue) ⊛ ‵ ((Outcome_type.the_row).own_val r (v₃ ∷ []))) ⊛ raw (ensured 𝓛 callee.ended (callee.clauses 𝓛 mem run) (κ₀, ((ν ∷ []), (κ₂, (κ₃, (κ₄, tt))))) (s, (n, (call, (x_store, (w_at l₁₀ δ z₁.1.0, (x_images, (x_format, (x_buffer, tt)))))))) tt r)))) (id⊢ 𝓤 _) $ await ! tt $ pick ! (λ r. split ! $ move ! (1 ∷ []) $ use1 𝓛 (some (λ (zs : Unit {0} × (Unit {0} × (Unit {0} × (List ℕ × (List ℕ × (List ℕ × (Unit {0} × (List ℕ × (Unit {0}))))))))). ‵ (lasts callee.ended (κ₀, ((ν ∷ []), (κ₂, (κ₃, (κ₄, tt))))) (s, (n, (call, (x_store, (w_at l₁₀ δ z₁.1.0, (x_images, (x_format, (x_buffer, tt)))))))) zs) ⊛ raw (fact 𝓤 (result r.answer (nucleus r.state zs.1.1.1.0 zs.1.1.1.1.0 zs.1.1.1.1.1.0) zs.1.1.1.1.1.1.1.0 ≡ on_words n call format_at buffer_at (nucleus s store_at z₁.1.0 images_at))))) (id⊢ 𝓤 _) $ pick ! (λ z₂. split ! $ move ! (1 ∷ []) $ heard ! (result r.answer (nucleus r.state z₂.1.1.1.0 z₂.1.1.1.1.0 z₂.1.1.1.1.1.0) z₂.1.1.1.1.1.1.1.0 ≡ on_words n call format_at buffer_at (nucleus s store_at z₁.1.0 images_at)) (λ e₂. fsplit ! $ drop ! $ fsplit ! $ drop ! $ fsplit ! $ drop ! $ fsplit ! $ fsplit ! $ move ! (1 ∷ []) $ feq_l ! (λ store_long. move ! (1 ∷ []) $ fsplit ! $ fsplit ! $ move ! (1 ∷ []) $ feq_l ! (λ queue_long. move ! (1 ∷ []) $ fsplit ! $ fsplit ! $ move ! (1 ∷ []) $ feq_l ! (λ images_long. move ! (1 ∷ []) $ fsplit ! $ drop ! $ fsplit ! $ fsplit ! $ move ! (1 ∷ []) $ feq_l ! (λ buffer_long. move ! (1 ∷ []) $ drop ! $ move ! (4 ∷ []) $ split ! $ move ! (1 ∷ []) $ peeks ! Outcome_type.the_row (Is Outcome_type.the_row) (shows 𝓛 Outcome_type.the_row) r (v₃ ∷ []) (λ is. land ! (from ! (stop !)) (init ! 47 refl ((LL.lawful Outcome_type.the_type Outcome_laws.the_laws 𝓛).typed r _ is).0) $ drop ! $ rewrite ! 46 (λ (u : Val). ‵ (fat full_share Outcome_laws.mir l₁₁ 0 u)) (ap only (LL.tells Outcome_type.the_type Outcome_laws.the_laws r _ is)) refl $
+        calls_at ! fm (Callee 𝓛 mem run) known_callee (to_callee l₁₀ ν δ z₁.1.0 n) (and_then ! (load ! (from ! (stop !)) (look ! 61 refl)) (and_then ! (load ! (from ! (stop !)) (look ! 45 refl)) (and_then ! (load ! (from ! (stop !)) (look ! 57 refl)) (and_then ! (load ! (from ! (stop !)) (look ! 26 refl)) (and_then ! (load ! (from ! (stop !)) (look ! 22 refl)) (and_then ! (load ! (from ! (stop !)) (look ! 18 refl)) (and_then ! (load ! (from ! (stop !)) (look ! 49 refl)) (and_then ! (load ! (from ! (stop !)) (look ! 14 refl)) (no_more !))))))))) (λ v₃. use1 𝓛 (later (some (λ (r : Outcome). ((‵ (flft κ₀ q₀) ⊛ ‵ (flft (ν ∷ []) full_share) ⊛ ‵ (flft κ₂ q₂) ⊛ ‵ (flft κ₃ q₃) ⊛ ‵ (flft κ₄ q₄) ⊛ ‵ ftrue) ⊛ ‵ ((Outcome_type.the_row).own_val r (v₃ ∷ []))) ⊛ raw (ensured 𝓛 callee.ended (callee.clauses 𝓛 mem run) (κ₀, ((ν ∷ []), (κ₂, (κ₃, (κ₄, tt))))) (s, (n, (call, (x_store, (w_at l₁₀ δ z₁.1.0, (x_images, (x_format, (x_buffer, tt)))))))) tt r)))) (id⊢ 𝓤 _) $ await ! tt $ pick ! (λ r. split ! $ move ! (1 ∷ []) $ use1 𝓛 (some (λ (zs : Unit {0} × (Unit {0} × (Unit {0} × (List ℕ × (List ℕ × (List ℕ × (Unit {0} × (List ℕ × (Unit {0}))))))))). ‵ (lasts callee.ended (κ₀, ((ν ∷ []), (κ₂, (κ₃, (κ₄, tt))))) (s, (n, (call, (x_store, (w_at l₁₀ δ z₁.1.0, (x_images, (x_format, (x_buffer, tt)))))))) zs) ⊛ raw (fact 𝓤 (resulting r.answer (nucleus r.state zs.1.1.1.0 zs.1.1.1.1.0 zs.1.1.1.1.1.0) zs.1.1.1.1.1.1.1.0 ≡ on_words n call format_at buffer_at (nucleus s store_at z₁.1.0 images_at))))) (id⊢ 𝓤 _) $ pick ! (λ z₂. split ! $ move ! (1 ∷ []) $ heard ! (resulting r.answer (nucleus r.state z₂.1.1.1.0 z₂.1.1.1.1.0 z₂.1.1.1.1.1.0) z₂.1.1.1.1.1.1.1.0 ≡ on_words n call format_at buffer_at (nucleus s store_at z₁.1.0 images_at)) (λ e₂. fsplit ! $ drop ! $ fsplit ! $ drop ! $ fsplit ! $ drop ! $ fsplit ! $ fsplit ! $ move ! (1 ∷ []) $ feq_l ! (λ store_long. move ! (1 ∷ []) $ fsplit ! $ fsplit ! $ move ! (1 ∷ []) $ feq_l ! (λ queue_long. move ! (1 ∷ []) $ fsplit ! $ fsplit ! $ move ! (1 ∷ []) $ feq_l ! (λ images_long. move ! (1 ∷ []) $ fsplit ! $ drop ! $ fsplit ! $ fsplit ! $ move ! (1 ∷ []) $ feq_l ! (λ buffer_long. move ! (1 ∷ []) $ drop ! $ move ! (4 ∷ []) $ split ! $ move ! (1 ∷ []) $ peeks ! Outcome_type.the_row (Is Outcome_type.the_row) (shows 𝓛 Outcome_type.the_row) r (v₃ ∷ []) (λ is. land ! (from ! (stop !)) (init ! 47 refl ((LL.lawful Outcome_type.the_type Outcome_laws.the_laws 𝓛).typed r _ is).0) $ drop ! $ rewrite ! 46 (λ (u : Val). ‵ (fat full_share Outcome_laws.mir l₁₁ 0 u)) (ap only (LL.tells Outcome_type.the_type Outcome_laws.the_laws r _ is)) refl $
         split ! $ move ! (1 ∷ []) $ split ! $ lft_end ! tt $ move ! (0 ∷ 7 ∷ 5 ∷ []) $ row_back ! tt u64 (length z₁.1.0) z₂.1.1.1.1.0 l₁₀ 0 $
         -- the words go back into the queue
         assigns ! (addr ! (from ! (fld ! refl (hop ! (look_in ! 57 (sub ! 0 refl (whole !))) (stop !))))) (from ! (stop !)) (init ! 16 refl (tt, tt)) $ assigns ! (agg ! (and_then ! (load ! (from ! (stop !)) (look ! 16 refl)) (and_then ! (load ! (from ! (fld ! refl (stop !))) (look_in ! 57 (sub ! 1 refl (whole !)))) (no_more !)))) (from ! (stop !)) (init ! 14 refl (tt, (tt, (record { fits = g_queue.0 }, tt)))) $ assigns ! (addr ! (from ! (stop !))) (from ! (stop !)) (init ! 12 refl (tt, tt)) $ assigns ! (agg ! (and_then ! (load ! (from ! (stop !)) (look ! 12 refl)) (and_then ! (lit ! tt) (no_more !)))) (from ! (stop !)) (init ! 10 refl (tt, (tt, (record { fits = lit< tt }, tt)))) $ rewrite ! 10 (λ (m : ℕ). ‵ (fat full_share (slice_ty (ty_ref erased imm word)) l₂₉ 0 (slice_val (l₁₀, 0) m))) (sym (queue_long ∙ (long₁ ∙ len₀))) refl $
