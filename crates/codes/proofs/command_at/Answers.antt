@@ -1,0 +1,78 @@
+-- `command_at` meets its contract: each arm's place computes to its command.
+-- Assumes nothing.
+use Prim.Native.Nat.{ℕ, ◌+◌, ◌≤◌}
+use native.Mathlib.Omega.{arith}
+use mathlib.Core.Path.{◌≡◌, sym, ap}
+use mathlib.Core.List.{map}
+use lib.ListN.{get_or-eq_default}
+use Rattle.nucleus.specs.Commands.{direct_commands}
+use Rattle.codes.specs.Codes.{command_at}
+use Rattle.codes.specs.declared.Decoded.TheVariants.{Known, Unknown}
+use Rattle.codes.proofs.command_at.Goals as goal
+
+-- a number that is not the least of those left is past it
+past : (k : ℕ) {n : ℕ} → k ≤ n → (n ≡ k → ⊥) → k + 1 ≤ n
+past k h other = omega arith
+
+pub returns-in-0 : goal.returns-in-0
+unfolding command_at
+returns-in-0 c = sym (ap command_at c.in-0.is)
+
+pub returns-in-1 : goal.returns-in-1
+unfolding command_at
+returns-in-1 c = sym (ap command_at c.in-1.is)
+
+pub returns-in-2 : goal.returns-in-2
+unfolding command_at
+returns-in-2 c = sym (ap command_at c.in-2.is)
+
+pub returns-in-3 : goal.returns-in-3
+unfolding command_at
+returns-in-3 c = sym (ap command_at c.in-3.is)
+
+pub returns-in-4 : goal.returns-in-4
+unfolding command_at
+returns-in-4 c = sym (ap command_at c.in-4.is)
+
+pub returns-in-5 : goal.returns-in-5
+unfolding command_at
+returns-in-5 c = sym (ap command_at c.in-5.is)
+
+pub returns-in-6 : goal.returns-in-6
+unfolding command_at
+returns-in-6 c = sym (ap command_at c.in-6.is)
+
+pub returns-in-7 : goal.returns-in-7
+unfolding command_at
+returns-in-7 c = sym (ap command_at c.in-7.is)
+
+pub returns-in-8 : goal.returns-in-8
+unfolding command_at
+returns-in-8 c = sym (ap command_at c.in-8.is)
+
+pub returns-in-9 : goal.returns-in-9
+unfolding command_at
+returns-in-9 c = sym (ap command_at c.in-9.is)
+
+pub returns-in-10 : goal.returns-in-10
+unfolding command_at
+returns-in-10 c = sym (ap command_at c.in-10.is)
+
+pub returns-in-11 : goal.returns-in-11
+unfolding command_at
+returns-in-11 c = sym (ap command_at c.in-11.is)
+
+pub returns-in-12 : goal.returns-in-12
+unfolding command_at
+returns-in-12 c = sym (ap command_at c.in-12.is)
+
+pub returns-in-13 : goal.returns-in-13
+unfolding command_at
+returns-in-13 c = sym (ap command_at c.in-13.is)
+
+pub returns-in_default : goal.returns-in_default
+unfolding command_at
+returns-in_default c =
+    let r = c.in_default.in_default-own.rest in
+    let end : 14 ≤ c.args.place = past 13 (past 12 (past 11 (past 10 (past 9 (past 8 (past 7 (past 6 (past 5 (past 4 (past 3 (past 2 (past 1 (past 0 (omega arith) r.0.0.0.0.0.0.0.0.0.0.0.0.0.1) r.0.0.0.0.0.0.0.0.0.0.0.0.1) r.0.0.0.0.0.0.0.0.0.0.0.1) r.0.0.0.0.0.0.0.0.0.0.1) r.0.0.0.0.0.0.0.0.0.1) r.0.0.0.0.0.0.0.0.1) r.0.0.0.0.0.0.0.1) r.0.0.0.0.0.0.1) r.0.0.0.0.0.1) r.0.0.0.0.1) r.0.0.0.1) r.0.0.1) r.0.1) r.1 in
+    sym (get_or-eq_default (map Known direct_commands) Unknown end)
