@@ -1,28 +1,21 @@
 // Prints for each file that it is started with the name, and then what `partycall` prints for it.
 #![tactic(auto)]
 
-use libc::STDOUT_FILENO;
+use std::fs::Files;
+use std::{env, fs, io};
 
 // The list that an argument names, or why it cannot be read.
-fn print_list(i: usize) {
-    let mut name = io::buffer();
-    let length = os::arg(i, &mut name);
-    io::write_all(STDOUT_FILENO, &name[..length]);
-    io::write_all(STDOUT_FILENO, b"\n");
-    let fd = os::open_read(&name[..length]);
-    if fd < 0 {
-        os::fail(&name[..length]);
-        return;
+fn print_list(rt: &(impl Files + Print + Eprint), name: &str) -> io::Result<()> {
+    println!(rt; "{name}")?;
+    match fs::open(rt, name) {
+        Ok(mut list) => party::run(&mut list, &mut io::writer(rt)),
+        Err(why) => eprintln!(rt; "{name}: {why}"),
     }
-    party::run(fd);
-    libc::close(fd);
 }
 
-fn main() {
-    let n = os::arg_count();
-    let mut i = 1;
-    while i < n {
-        print_list(i);
-        i += 1;
+fn main(rt: HostRuntime) -> io::Result<()> {
+    for name in env::args(&rt)?.skip(1) {
+        print_list(&rt, name.as_str())?;
     }
+    Ok(())
 }

@@ -1,56 +1,42 @@
-// What the programs that show a crate's functions print with, all to standard output.
+// What the programs that show a crate's functions print with, all to standard output. A write that fails is an error, which the program ends with.
 #![tactic(auto)]
 
-use libc::STDOUT_FILENO;
+use std::io;
 
-fn wide(b: u8) -> u64 {
-    b as u64
+pub fn text(rt: &impl Print, t: &[u8]) -> io::Result<()> {
+    rt.write_all(t)
 }
 
-pub fn text(t: &[u8]) {
-    io::write_all(STDOUT_FILENO, t);
+pub fn number(rt: &impl Print, n: u64) -> io::Result<()> {
+    print!(rt; "{n}")
 }
 
-pub fn number(n: u64) {
-    io::print_decimal(STDOUT_FILENO, n);
-}
-
-pub fn yes_or_no(b: bool) {
-    if b {
-        text(b"yes");
-    } else {
-        text(b"no");
-    }
+pub fn yes_or_no(rt: &impl Print, b: bool) -> io::Result<()> {
+    if b { text(rt, b"yes") } else { text(rt, b"no") }
 }
 
 // What a line is about: a word and a number.
-pub fn title(word: &[u8], n: u64) {
-    text(word);
-    text(b" ");
-    number(n);
-    text(b": ");
+pub fn title(rt: &impl Print, word: &[u8], n: u64) -> io::Result<()> {
+    text(rt, word)?;
+    print!(rt; " {n}: ")
 }
 
 // Bytes in hexadecimal.
-pub fn bytes(s: &[u8]) {
-    let mut i = 0;
-    while i < s.len() {
-        io::print_hex(STDOUT_FILENO, wide(s[i]), 2);
-        i += 1;
+pub fn bytes(rt: &impl Print, s: &[u8]) -> io::Result<()> {
+    for b in s {
+        print!(rt; "{b:02x}")?;
     }
+    Ok(())
 }
 
 // Bytes in hexadecimal, and the end of the line.
-pub fn line(s: &[u8]) {
-    bytes(s);
-    text(b"\n");
+pub fn line(rt: &impl Print, s: &[u8]) -> io::Result<()> {
+    bytes(rt, s)?;
+    println!(rt;)
 }
 
 // The first `count` bytes in hexadecimal, or all where there are fewer.
-pub fn front(s: &[u8], count: usize) {
-    if s.len() <= count {
-        bytes(s);
-        return;
-    }
-    bytes(&s[..count]);
+pub fn front(rt: &impl Print, s: &[u8], count: usize) -> io::Result<()> {
+    let n = s.len().min(count);
+    bytes(rt, &s[..n])
 }

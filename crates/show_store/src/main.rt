@@ -5,6 +5,7 @@
 
 use definition::File;
 use search::Occupied;
+use std::io;
 
 fn house() -> File {
     let r = reading::read(b"\x01\x01\x00\x03\x02RC\x01AU\x02HH\x02A \x00");
@@ -12,81 +13,81 @@ fn house() -> File {
     d.files[0]
 }
 
-fn fresh(part: &mut [u8]) {
+fn fresh(rt: &impl Print, part: &mut [u8]) -> io::Result<()> {
     store::fresh(house(), part);
-    show::text(b"fresh: ");
-    show::line(part);
+    show::text(rt, b"fresh: ")?;
+    show::line(rt, part)
 }
 
-fn put(part: &mut [u8], isn: u16, content: &[u8]) {
+fn put(rt: &impl Print, part: &mut [u8], isn: u16, content: &[u8]) -> io::Result<()> {
     store::put_record(house(), part, isn, content);
-    show::title(b"put", isn as u64);
-    show::line(part);
+    show::title(rt, b"put", isn as u64)?;
+    show::line(rt, part)
 }
 
-fn empty(part: &mut [u8], isn: u16) {
+fn empty(rt: &impl Print, part: &mut [u8], isn: u16) -> io::Result<()> {
     store::empty(house(), part, isn);
-    show::title(b"empty", isn as u64);
-    show::line(part);
+    show::title(rt, b"empty", isn as u64)?;
+    show::line(rt, part)
 }
 
-fn has(part: &[u8], isn: u16) {
-    show::title(b"has", isn as u64);
-    show::yes_or_no(store::has_record(house(), part, isn));
-    show::text(b"\n");
+fn has(rt: &impl Print, part: &[u8], isn: u16) -> io::Result<()> {
+    show::title(rt, b"has", isn as u64)?;
+    show::yes_or_no(rt, store::has_record(house(), part, isn))?;
+    show::text(rt, b"\n")
 }
 
 // Option `I`: the lowest ISN at or above one that has a record, or response 3.
-fn lowest(part: &[u8], from: u16) {
-    show::title(b"lowest", from as u64);
+fn lowest(rt: &impl Print, part: &[u8], from: u16) -> io::Result<()> {
+    show::title(rt, b"lowest", from as u64)?;
     let found = search::lowest(house(), part, from);
     if let Occupied::At(isn) = found {
-        show::number(isn as u64);
+        show::number(rt, isn as u64)?;
     } else {
-        show::text(b"response 3");
+        show::text(rt, b"response 3")?;
     }
-    show::text(b"\n");
+    show::text(rt, b"\n")
 }
 
 // Whether a record at an ISN other than the given one has the value in the field at a place: 0 for RC, 1 for HH.
-fn elsewhere(part: &[u8], place: usize, isn: u16, value: &[u8]) {
-    show::text(value);
-    show::title(b" elsewhere than", isn as u64);
-    show::yes_or_no(search::elsewhere(house(), part, place, isn, value));
-    show::text(b"\n");
+fn elsewhere(rt: &impl Print, part: &[u8], place: usize, isn: u16, value: &[u8]) -> io::Result<()> {
+    show::text(rt, value)?;
+    show::title(rt, b" elsewhere than", isn as u64)?;
+    show::yes_or_no(rt, search::elsewhere(house(), part, place, isn, value))?;
+    show::text(rt, b"\n")
 }
 
 // Two records. A record that is too short, and one past the highest ISN, are not put.
-fn fill(part: &mut [u8]) {
-    fresh(part);
-    put(part, 1, b"2AB");
-    put(part, 3, b"3CD");
-    put(part, 2, b"4E");
-    put(part, 4, b"4EF");
+fn fill(rt: &impl Print, part: &mut [u8]) -> io::Result<()> {
+    fresh(rt, part)?;
+    put(rt, part, 1, b"2AB")?;
+    put(rt, part, 3, b"3CD")?;
+    put(rt, part, 2, b"4E")?;
+    put(rt, part, 4, b"4EF")
 }
 
-fn look(part: &[u8]) {
-    has(part, 0);
-    has(part, 1);
-    has(part, 2);
-    has(part, 4);
-    lowest(part, 0);
-    lowest(part, 2);
-    lowest(part, 4);
-    elsewhere(part, 0, 2, b"2");
-    elsewhere(part, 0, 1, b"2");
-    elsewhere(part, 1, 1, b"CD");
-    elsewhere(part, 1, 1, b"EF");
+fn look(rt: &impl Print, part: &[u8]) -> io::Result<()> {
+    has(rt, part, 0)?;
+    has(rt, part, 1)?;
+    has(rt, part, 2)?;
+    has(rt, part, 4)?;
+    lowest(rt, part, 0)?;
+    lowest(rt, part, 2)?;
+    lowest(rt, part, 4)?;
+    elsewhere(rt, part, 0, 2, b"2")?;
+    elsewhere(rt, part, 0, 1, b"2")?;
+    elsewhere(rt, part, 1, 1, b"CD")?;
+    elsewhere(rt, part, 1, 1, b"EF")
 }
 
 // "Emptying sets an ISN's first byte to 0 and keeps the rest." An emptied record has no value any more.
-fn main() {
+fn main(rt: HostRuntime) -> io::Result<()> {
     let mut part = [0xEEu8; 14];
-    fill(&mut part);
-    look(&part);
-    empty(&mut part, 1);
-    has(&part, 1);
-    lowest(&part, 0);
-    elsewhere(&part, 0, 2, b"2");
-    empty(&mut part, 4);
+    fill(&rt, &mut part)?;
+    look(&rt, &part)?;
+    empty(&rt, &mut part, 1)?;
+    has(&rt, &part, 1)?;
+    lowest(&rt, &part, 0)?;
+    elsewhere(&rt, &part, 0, 2, b"2")?;
+    empty(&rt, &mut part, 4)
 }
