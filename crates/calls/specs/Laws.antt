@@ -26,12 +26,12 @@ use Rattle.nucleus.specs.declared.Command.TheVariants.{Hi, Ri, L1, L4, A1, E1, N
 use Rattle.nucleus.specs.declared.Response.TheVariants.{FileUnknown, IsnInvalid}
 use Rattle.shares.specs.Shares.{share_of}
 use Rattle.shares.specs.Chains.{max_scratch, e1_cause, a1_cause, n1_cause, n2_cause, replaced, added, free_isn}
-use Rattle.shares.specs.Laws.{result_on, part_kept}
-use Rattle.shares.specs.LawsHolding.{perform_hi, perform_ri, perform_ri_all}
-use Rattle.shares.specs.LawsReading.{perform_l1, perform_l4}
-use Rattle.shares.specs.LawsChanging.{perform_a1, perform_e1, perform_n1, perform_n2}
-use Rattle.shares.specs.LawsEnding.{perform_et, perform_bt, perform_re, perform_op, perform_cl, perform_pe}
-use Rattle.shares.specs.LawsRefused.{refusal_is, perform_unknown, perform_invalid}
+use Rattle.shares.proofs.Laws.{result_on, part_kept}
+use Rattle.shares.proofs.LawsHolding.{perform_hi, perform_ri, perform_ri_all}
+use Rattle.shares.proofs.LawsReading.{perform_l1, perform_l4}
+use Rattle.shares.proofs.LawsChanging.{perform_a1, perform_e1, perform_n1, perform_n2}
+use Rattle.shares.proofs.LawsEnding.{perform_et, perform_bt, perform_re, perform_op, perform_cl, perform_pe}
+use Rattle.shares.proofs.LawsRefused.{refusal_is, perform_unknown, perform_invalid}
 use Rattle.shares.specs.declared.Share.{Share}
 use Rattle.file_commands.specs.FileCommands.{Left, on_file}
 use Rattle.understanding.specs.Understanding.{isn_refused}

@@ -42,7 +42,7 @@ use Rattle.shares.specs.declared.Verdict.{Verdict}
 use Rattle.shares.specs.declared.Verdict.TheVariants.{Passed, Refused}
 use Rattle.access.specs.Access.{admission_of}
 use Rattle.understanding.specs.Understanding.{understood_as}
-use Rattle.understanding.specs.Laws.{Plain, understood_plain}
+use Rattle.understanding.proofs.Laws.{Plain, understood_plain}
 use Rattle.understanding.specs.declared.Understood.TheVariants.{As}
 use Rattle.file_commands.specs.FileCommands.{left}
 use Rattle.calls.specs.Commands.{performed}

@@ -8,7 +8,7 @@ use Rattle.definition.specs.declared.File.{File}
 use Rattle.store.specs.Store.{has_record}
 use Rattle.nucleus.specs.Rows.{Row, first_cause}
 use Rattle.nucleus.specs.declared.Call.{Call}
-use Rattle.shares.specs.Laws.{row_passed, last_passed}
+use Rattle.shares.proofs.Laws.{row_passed, last_passed}
 use Rattle.shares.specs.Chains.{row_other, row_there, row_held, rows_room, e1_cause}
 use Rattle.shares.specs.declared.Share.{Share}
 use Rattle.change_rows.specs.ChangeRows.{rows_changed}

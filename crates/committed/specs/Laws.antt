@@ -9,7 +9,7 @@ use borrow.Author.Tests.{leb-true}
 use Rattle.lists.specs.Tests.{not_both}
 use Rattle.definition.specs.declared.File.{File}
 use Rattle.records.specs.Records.{record_length}
-use Rattle.store.specs.Laws.{shown_length}
+use Rattle.store.proofs.Laws.{shown_length}
 use Rattle.committed.specs.Committed.{image_inside, version_there, version_bytes}
 use Rattle.committed.specs.declared.Version.{Version}
 use Rattle.committed.specs.declared.Version.TheVariants.{Stored, Imaged, Absent}

@@ -12,7 +12,7 @@ use Rattle.definition.specs.declared.Definition.{Definition}
 use Rattle.records.specs.Records.{record_length, slot_offset, file_size}
 use Rattle.layout.specs.Layout.{file_offset}
 use Rattle.store.specs.Store.{has_record, file_part}
-use Rattle.store.specs.Laws.{record_inside, shown_record, shown_none}
+use Rattle.store.proofs.Laws.{record_inside, shown_record, shown_none}
 use Rattle.committed.specs.Committed.{image_inside, version_there, version_bytes, version_place, bytes_at}
 use Rattle.committed.specs.declared.Version.{Version}
 use Rattle.committed.specs.declared.Version.TheVariants.{Stored, Imaged, Absent}

@@ -1,6 +1,4 @@
 pub mod Database
-pub mod Laws
-pub mod Words
 pub mod Tables
 pub mod Committed
 mod Examples

@@ -13,7 +13,7 @@ use Rattle.nucleus.specs.declared.Answer.{Answer}
 use Rattle.nucleus.specs.declared.Call.{Call}
 use Rattle.nucleus.specs.declared.State.{State}
 use Rattle.database.specs.Database.{database, fitting_in, words, with_words, Reply, reply, reply_of, direct_call}
-use Rattle.database.specs.Laws.{fitting_size, step_fits}
+use Rattle.database.proofs.Laws.{fitting_size, step_fits}
 use Rattle.direct_calls.specs.DirectCalls.{packed_front, unpacked_front, with_rest, on_words}
 
 -- the first n words, lent as as many as there are, are what the call is on

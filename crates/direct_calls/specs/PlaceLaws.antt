@@ -10,7 +10,7 @@ use Rattle.nucleus.specs.Nucleus.{nucleus}
 use Rattle.nucleus.specs.Committed.{committed_place}
 use Rattle.nucleus.specs.declared.State.{State}
 use Rattle.database.specs.Database.{database, fitting_in, words, direct_place}
-use Rattle.database.specs.Laws.{place_fits}
+use Rattle.database.proofs.Laws.{place_fits}
 use Rattle.kept_states.specs.KeptStates.{thawed}
 use Rattle.kept_states.specs.declared.KeptState.{KeptState}
 use Rattle.direct_calls.specs.DirectCalls.{packed_front}

@@ -15,8 +15,8 @@ use Rattle.nucleus.specs.Responses.{refused}
 use Rattle.nucleus.specs.Nucleus.{Result}
 use Rattle.nucleus.specs.declared.Response.TheVariants.{StateInvalid}
 use Rattle.database.specs.Database.{database, fitting_in, in_words, reply_of, direct_call}
-use Rattle.database.specs.Laws.{invalid_refused}
-use Rattle.database.specs.Words.{entries_back}
+use Rattle.database.proofs.Laws.{invalid_refused}
+use Rattle.database.proofs.Words.{entries_back}
 use Rattle.database.specs.Tables.{same_table}
 use Rattle.kept_states.specs.KeptStates.{thawed, with_kept_table, call_of, answered, left_by}
 use Rattle.kept_states.specs.Laws.{thawed_with, thawed_none}

@@ -18,7 +18,7 @@ use Rattle.records.specs.Laws.{field_before, field_within}
 use Rattle.values.specs.Values.{stored}
 use Rattle.values.specs.Laws.{stored_length}
 use Rattle.elements.specs.Elements.{places, named_twice, length_at, length_needed}
-use Rattle.elements.specs.Laws.{places_inside, places_distinct, needed_total}
+use Rattle.elements.proofs.Laws.{places_inside, places_distinct, needed_total}
 use Rattle.lists.specs.Parts.{Apart, sets_other, sets_same}
 use Rattle.fields.specs.Fields.{field_bytes, front_value, behind, read_out, write_in, fits, read_fields, write_fields, values_allowed}
 use Rattle.definition.specs.declared.File.{File}

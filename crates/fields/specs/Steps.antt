@@ -10,8 +10,8 @@ use Rattle.records.specs.Laws.{field_within}
 use Rattle.values.specs.Laws.{plain_stored}
 use Rattle.digits.specs.Laws.{plain_allowed}
 use Rattle.elements.specs.Elements.{element, before, places, length_of, length_needed}
-use Rattle.elements.specs.Steps.{places_step, needed_step}
-use Rattle.elements.specs.Laws.{element_inside}
+use Rattle.elements.proofs.Steps.{places_step, needed_step}
+use Rattle.elements.proofs.Laws.{element_inside}
 use Rattle.lists.specs.Parts.{length_piece}
 use Rattle.fields.specs.Fields.{span_of, span_bytes, span_written, span_allowed, read_out, write_in, allowed_in}
 use Rattle.fields.specs.declared.Span.{Span}

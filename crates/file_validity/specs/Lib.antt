@@ -1,3 +1,2 @@
 pub mod FileValidity
 pub mod Keys
-pub mod Laws

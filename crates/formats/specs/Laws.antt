@@ -7,7 +7,7 @@ use Rattle.definition.specs.declared.File.{File}
 use Rattle.elements.specs.Elements.{format_valid, length_needed}
 use Rattle.nucleus.specs.Rows.{Row, row, first_cause}
 use Rattle.nucleus.specs.declared.Response.TheVariants.{FormatInvalid, RecordLength}
-use Rattle.shares.specs.Laws.{row_passed, last_passed}
+use Rattle.shares.proofs.Laws.{row_passed, last_passed}
 use Rattle.shares.specs.Chains.{rows_read}
 
 -- the record buffer has room for what is read, whatever rows come after

@@ -26,7 +26,7 @@ use Rattle.transactions.specs.Machine.{Entry as MachineEntry, new_entry, of_user
 use Rattle.ground.specs.Keys.{isn_bound, key, key_test}
 use Rattle.ground.specs.Queue.{key_of, before, held, holds_of, queue_of, Made}
 use Rattle.ground.specs.Reading.{Small, entries_small, held_key, found_one}
-use Rattle.transactions.specs.Single.{all_at_key, release_one}
+use Rattle.transactions.proofs.Single.{all_at_key, release_one}
 
 -- ---- a new entry
 module _ (d : Definition) where

@@ -35,7 +35,7 @@ use Rattle.ground.specs.Store.{get}
 use Rattle.ground.specs.StoreLaws.{get_fit, fit_form}
 use Rattle.ground.specs.Queue.{key_of, before, held, queue_of, entry_known, Made}
 use Rattle.ground.specs.Reading.{single_at, found_inside, found_word, found_key, found_at, found_long, found_here}
-use Rattle.transactions.specs.Single.{image_kept_set, imaged_changed}
+use Rattle.transactions.proofs.Single.{image_kept_set, imaged_changed}
 
 -- ---- an image is as wide as the widest file (`lists`, Folds, and `layout`, Laws)
 maximum_at : {A : Type 0} (f : A → ℕ) (l : List A) (z : A) (i : ℕ) → i < length l → f (get_or l i z) ≤ maximum f l

@@ -17,7 +17,7 @@ use Rattle.records.specs.declared.Found.{Found}
 use Rattle.records.specs.declared.Found.TheVariants.{At, Nowhere}
 use Rattle.lists.specs.Numbers.{numbers, each_number, in_numbers}
 use Rattle.store.specs.Store.{get as get_record, fresh, file_part}
-use Rattle.store.specs.Laws.{fresh_length, get_fresh}
+use Rattle.store.proofs.Laws.{fresh_length, get_fresh}
 use Rattle.store.specs.Files.{file_part_length, with_part_length, part_same, part_other, part_past}
 use Rattle.ground.specs.Keys.{key_file, key_isn}
 use Rattle.ground.specs.Store.{whole, get_at, get, fresh_at, fresh_from, fresh_store}

@@ -21,7 +21,7 @@ use Rattle.layout.specs.Laws.{place_found}
 use Rattle.records.specs.declared.Found.{Found}
 use Rattle.records.specs.declared.Found.TheVariants.{At, Nowhere}
 use Rattle.store.specs.Store.{get as get_record, file_part, with_part}
-use Rattle.store.specs.Laws.{fits_whole, get_length, put_length, get_put as get_put_record, get_put_other, empty_length, get_empty, get_empty_other}
+use Rattle.store.proofs.Laws.{fits_whole, get_length, put_length, get_put as get_put_record, get_put_other, empty_length, get_empty, get_empty_other}
 use Rattle.store.specs.Files.{file_part_length, with_part_length, part_same, part_other, part_past}
 use Rattle.transactions.specs.Slots.{Slot}
 use Rattle.ground.specs.Keys.{isn_bound, key, file_of_key, isn_of_key, key_file, key_isn, key_parts, known, Known, known_found}

@@ -21,7 +21,7 @@ use Rattle.validity.specs.Laws.{valid_at}
 use Rattle.entries.specs.Entries.{entries}
 use Rattle.store.specs.Store.{get as get_record, field_value, file_part}
 use Rattle.search.specs.Search.{elsewhere}
-use Rattle.store.specs.Laws.{some_has, has_fits, fits_least, fits_most}
+use Rattle.store.proofs.Laws.{some_has, has_fits, fits_least, fits_most}
 use Rattle.search.specs.Laws.{Elsewhere, elsewhere_true, elsewhere_false}
 use Rattle.images.specs.Images.{image_has}
 use Rattle.transactions.specs.Slots.{Slot}

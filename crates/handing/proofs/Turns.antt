@@ -45,7 +45,7 @@ module _ {d : Definition} {clock : ℕ} {words : List ℕ} {n : ℕ} {store queu
       → Pending d clock words n store queue₀ s₀ queue' s' (i + 1)
   turn more e s' queue' here long on =
       record {
-        queue_length = long ∙ p.queue-length;
+        queue_length = long ∙ p.queue_length;
         same = λ kept assigned images.
             ap (handed (drop (i + 1) (entries words n))) (sym (on kept assigned images))
             ∙ rw here (rw (entry_next words n i more) at (p.same kept assigned images));

@@ -21,7 +21,7 @@ use Rattle.entries.specs.declared.Entry.{Entry}
 use Rattle.queue.specs.Queue.{holder, append}
 use Rattle.queue.specs.declared.Lookup.TheVariants.{Held, Free}
 use Rattle.removal.specs.Removal.{goes, remove_queue, remove_images, remove_count, picked_out}
-use Rattle.removal.specs.Picking.{entries_picked}
+use Rattle.removal.proofs.Picking.{entries_picked}
 use Rattle.removal.specs.declared.Removal.{Removal}
 use Rattle.removal.specs.declared.Removal.TheVariants.{All}
 use Rattle.hold.specs.Hold.{restore}

@@ -19,7 +19,7 @@ use Rattle.records.specs.declared.Found.TheVariants as found_at
 use Rattle.lists.specs.Numbers.{from_to, each_number}
 use Rattle.search.specs.Search.{first_of, lowest}
 use Rattle.store.specs.Store.{record_of}
-use Rattle.store.specs.Laws.{get_is}
+use Rattle.store.proofs.Laws.{get_is}
 use Rattle.search.specs.Laws.{lowest_found}
 use Rattle.search.specs.declared.Occupied.{Occupied}
 use Rattle.search.specs.declared.Occupied.TheVariants.{At, Nowhere}

@@ -19,7 +19,7 @@ use Rattle.nulls.specs.Laws.{null_record_is, null_record_length}
 use Rattle.fields.specs.Laws.{write_fields_length}
 use Rattle.lists.specs.Parts.{length_piece}
 use Rattle.store.specs.Store.{record_of, file_part}
-use Rattle.store.specs.Laws.{fits_whole}
+use Rattle.store.proofs.Laws.{fits_whole}
 use Rattle.store.specs.Slots.{slot_inside}
 use Rattle.store.specs.Files.{file_part_length}
 use Rattle.ground.specs.Keys.{key}

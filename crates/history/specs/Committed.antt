@@ -16,13 +16,13 @@ use Rattle.records.specs.declared.Found.TheVariants.{At, Nowhere}
 use Rattle.layout.specs.Layout.{image_length, place, file_found}
 use Rattle.layout.specs.Laws.{place_found}
 use Rattle.store.specs.Store.{file_part}
-use Rattle.store.specs.Laws.{get_outside}
+use Rattle.store.proofs.Laws.{get_outside}
 use Rattle.entries.specs.declared.Entry.{Entry}
 use Rattle.committed.specs.Committed.{committed_version, version_there, version_bytes, bytes_at}
 use Rattle.committed.specs.declared.Version.{Version}
 use Rattle.transactions.specs.Machine.{Ground}
-use Rattle.transactions.specs.View.{plus, stay, back_stay}
-use Rattle.transactions.specs.Effect.{told, told_back_out}
+use Rattle.transactions.proofs.View.{plus, stay, back_stay}
+use Rattle.transactions.proofs.Effect.{told, told_back_out}
 use Rattle.ground.specs.Keys.{isn_bound, key}
 use Rattle.ground.specs.Ground.{ground}
 use Rattle.ground.specs.Store.{get}

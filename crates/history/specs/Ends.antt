@@ -12,7 +12,7 @@ use Rattle.removal.specs.Removal.{stays}
 use Rattle.removal.specs.declared.Removal.TheVariants.{All}
 use Rattle.entries.specs.declared.Entry.{Entry}
 use Rattle.transactions.specs.Machine.{Laws, Machine, end, back_out, allowed}
-use Rattle.transactions.specs.Theorems.{kept_act}
+use Rattle.transactions.proofs.Theorems.{kept_act}
 use Rattle.lists.specs.Maps.{all_over}
 use Rattle.ground.specs.Ground.{laws}
 use Rattle.ground.specs.Acts.{act_end, act_back_out}

@@ -17,8 +17,8 @@ use Rattle.nucleus.specs.Step.{step, set_up}
 use Rattle.nucleus.specs.declared.Call.{Call}
 use Rattle.nucleus.specs.declared.Response.TheVariants.{Good}
 use Rattle.database.specs.Database.{Database, fitting_in, words, in_words, with_words, direct_call, set_up_database}
-use Rattle.database.specs.Laws.{fitting_size}
-use Rattle.database.specs.Words.{fitting_all, fitting_whole, renewed, length_renewed, entries_renewed, same_size, same_behind, words_again}
+use Rattle.database.proofs.Laws.{fitting_size}
+use Rattle.database.proofs.Words.{fitting_all, fitting_whole, renewed, length_renewed, entries_renewed, same_size, same_behind, words_again}
 use Rattle.reading.specs.Grammar.{read_table}
 use Rattle.claim.specs.Journal.{Journal, new_journal, is_early, fed}
 use Rattle.claim.specs.Lent.{Lent, Alike}

@@ -15,12 +15,12 @@ use Rattle.definition.specs.Table.{field_at, field_count, is_unique}
 use Rattle.definition.specs.declared.File.{File}
 use Rattle.definition.specs.declared.Definition.{Definition}
 use Rattle.elements.specs.Elements.{period_alone, format_valid, places}
-use Rattle.elements.specs.Laws.{alone_places, alone_once, alone_needed}
+use Rattle.elements.proofs.Laws.{alone_places, alone_once, alone_needed}
 use Rattle.fields.specs.Laws.{read_none, write_none, allowed_none}
 use Rattle.nulls.specs.Nulls.{null_record}
 use Rattle.store.specs.Store.{record_of, field_value, put_record}
 use Rattle.store.specs.Files.{part_own}
-use Rattle.store.specs.Laws.{put_own}
+use Rattle.store.proofs.Laws.{put_own}
 use Rattle.records.specs.declared.Found.{Found}
 use Rattle.records.specs.declared.Found.TheVariants.{At, Nowhere}
 use Rattle.queue.specs.declared.Lookup.{Lookup}

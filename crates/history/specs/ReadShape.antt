@@ -15,7 +15,7 @@ use Rattle.definition.specs.declared.File.{File}
 use Rattle.definition.specs.declared.Definition.{Definition}
 use Rattle.file_validity.specs.FileValidity.{capital, digit, name_valid, field_valid, file_valid}
 use Rattle.validity.specs.Validity.{valid}
-use Rattle.file_validity.specs.Laws.{valid_file}
+use Rattle.file_validity.proofs.Laws.{valid_file}
 use Rattle.items.specs.Items.{item_of}
 use Rattle.reading.specs.Grammar.{room_for_file, add_file, last_file, room_for_field, with_field, add_field, broken, proceed, read_from, read_table}
 use Rattle.items.specs.declared.Item.{Item}

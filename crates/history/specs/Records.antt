@@ -21,9 +21,9 @@ use Rattle.records.specs.declared.Found.{Found}
 use Rattle.records.specs.declared.Found.TheVariants.{At, Nowhere}
 use Rattle.lists.specs.Numbers.{numbers, in_numbers}
 use Rattle.store.specs.Store.{get as get_record, file_part}
-use Rattle.store.specs.Laws.{get_outside}
+use Rattle.store.proofs.Laws.{get_outside}
 use Rattle.transactions.specs.Machine.{replay}
-use Rattle.transactions.specs.Theorems.{same_slots, no_value_twice}
+use Rattle.transactions.proofs.Theorems.{same_slots, no_value_twice}
 use Rattle.ground.specs.Keys.{isn_bound, key, key_file, file_of_key, isn_of_key, key_test, file_of, known, keys, keys_known}
 use Rattle.ground.specs.Store.{get, get_at}
 use Rattle.ground.specs.StoreLaws.{get_is}

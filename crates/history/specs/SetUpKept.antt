@@ -12,14 +12,14 @@ use Rattle.definition.specs.declared.Definition.{Definition}
 use Rattle.layout.specs.Layout.{store_size, image_length}
 use Rattle.validity.specs.Validity.{valid}
 use Rattle.reading.specs.Grammar.{read_table}
-use Rattle.reading.specs.Laws.{read_valid}
+use Rattle.reading.proofs.Laws.{read_valid}
 use Rattle.reading.specs.declared.End.{End}
 use Rattle.reading.specs.declared.End.TheVariants.{At, Broken}
 use Rattle.lists.specs.Numbers.{numbers}
 use Rattle.entries.specs.Entries.{entries}
 use Rattle.repeats.specs.Repeats.{repeated}
 use Rattle.transactions.specs.Machine.{begin}
-use Rattle.transactions.specs.Theorems.{Invariant, kept_begin}
+use Rattle.transactions.proofs.Theorems.{Invariant, kept_begin}
 use Rattle.ground.specs.Store.{fresh_from, fresh_store}
 use Rattle.ground.specs.Fresh.{fresh_room, fresh_store_is, fresh_store_length, fresh_store_past}
 use Rattle.ground.specs.Ground.{ground, laws}

@@ -1,4 +1,2 @@
 pub mod House
-pub mod Laws
-pub mod Tables
 mod Examples

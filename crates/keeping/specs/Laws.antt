@@ -5,7 +5,7 @@ use Rattle.std.proofs.Math.Path.{refl, ap}
 use Rattle.lists.specs.Tests.{Outcome, holds, fails, outcome}
 use Rattle.definition.specs.declared.File.{File}
 use Rattle.store.specs.Store.{has_record, record_of, shown}
-use Rattle.store.specs.Laws.{shown_record}
+use Rattle.store.proofs.Laws.{shown_record}
 use Rattle.queue.specs.declared.Lookup.{Lookup}
 use Rattle.queue.specs.declared.Lookup.TheVariants.{Held, Free}
 use Rattle.changes.specs.Changes.{first_change_images}

@@ -13,7 +13,7 @@ use Rattle.nucleus.specs.declared.Response.TheVariants.{Good, DefinitionInvalid,
 use Rattle.database.specs.Database.{Database, database, Reply, direct_call, direct_part, set_up_database}
 use Rattle.kept_states.specs.KeptStates.{thawed, answered, left_by}
 use Rattle.kept_setup.specs.KeptSetup.{kept_set_up}
-use Rattle.kept_setup.specs.Laws.{made_thawed}
+use Rattle.kept_setup.proofs.Laws.{made_thawed}
 use Rattle.direct_calls.specs.Kept.{kept_call}
 use Rattle.direct_calls.specs.Places.{kept_place}
 use Rattle.direct_calls.specs.Promises.{left_thawed}

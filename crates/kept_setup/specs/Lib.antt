@@ -1,4 +1,3 @@
 pub mod KeptSetup
 pub mod Tidy
-pub mod Laws
 pub mod Examples

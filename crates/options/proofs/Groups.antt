@@ -9,6 +9,7 @@ use denote.Enum.Declared.{tag_of}
 use lib.ListN.{get_or}
 use types.Run.{OneOf}
 use borrow.Author.Tests.{not-true}
+use borrow.Enum.Refused.{Among, opened}
 use Rattle.lists.specs.Tests.{and_left, and_right}
 use Rattle.lists.specs.Folds.{all}
 use Rattle.lists.specs.Sift.{sift, all_sift}
@@ -55,5 +56,5 @@ module _ (cs : List Command) (c : Command) where
   abbrev other : Command → Bool
   other d = not (one_of cs d)
 
-  pub not_in_group : OneOf (map tag (sift other direct_commands)) (tag c) → false ≡ one_of cs c
-  not_in_group o = sym (not-true (one_of cs c) (in_arm other c (sift other direct_commands) (all_sift other direct_commands) o))
+  pub not_in_group : Among (map tag (sift other direct_commands)) (tag c) → false ≡ one_of cs c
+  not_in_group o = sym (not-true (one_of cs c) (in_arm other c (sift other direct_commands) (all_sift other direct_commands) (opened o)))

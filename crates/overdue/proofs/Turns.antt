@@ -44,8 +44,8 @@ module _ {d : Definition} {clock : ℕ} {store₀ queue₀ images₀ : List ℕ}
         record {
           within = omega arith;
           store_length = p.store_length;
-          queue_length = p.queue-length;
-          images_length = p.images-length;
+          queue_length = p.queue_length;
+          images_length = p.images_length;
           same = λ kept assigned.
               sym (ap (timed_out_from (max_users - (i + 1)) (i + 1 + 1)) (kept_when_not d clock s kept assigned store queue images i (due_alike clock blank idle s.users i ∙ early)))
               ∙ sym (next_user max_users i _ more) ∙ p.same kept assigned;
@@ -61,8 +61,8 @@ module _ {d : Definition} {clock : ℕ} {store₀ queue₀ images₀ : List ℕ}
         record {
           within = omega arith;
           store_length = l_store ∙ p.store_length;
-          queue_length = l_queue ∙ p.queue-length;
-          images_length = l_images ∙ p.images-length;
+          queue_length = l_queue ∙ p.queue_length;
+          images_length = l_images ∙ p.images_length;
           same = λ kept assigned.
               ap (timed_out_from (max_users - (i + 1)) (i + 1 + 1))
               (sym (out_when_due d clock s kept assigned store queue images i (due_alike clock blank idle s.users i ∙ due) ∙ out kept assigned))

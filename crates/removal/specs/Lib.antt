@@ -2,5 +2,4 @@ pub mod Closing
 pub mod Removal
 pub mod Turn
 pub mod Laws
-pub mod Picking
 pub mod Examples

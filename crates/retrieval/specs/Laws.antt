@@ -16,7 +16,7 @@ use Rattle.nucleus.specs.Rows.{Row, first_cause}
 use Rattle.nucleus.specs.declared.Call.{Call}
 use Rattle.nucleus.specs.declared.Response.{Response}
 use Rattle.shares.specs.Causes.{causes_refused, causes_passed}
-use Rattle.shares.specs.Laws.{row_passed, last_passed}
+use Rattle.shares.proofs.Laws.{row_passed, last_passed}
 use Rattle.shares.specs.Chains.{rows_read, row_found, sought, sought_isn}
 use Rattle.formats.specs.Laws.{read_room}
 use Rattle.retrieval.specs.Retrieval.{target_unless, rows_target, read_target}

@@ -14,7 +14,7 @@ use Rattle.lists.specs.Numbers.{numbers}
 use Rattle.search.specs.Search.{first_of, has_value, lowest, elsewhere}
 use Rattle.store.specs.Store.{slot_count, isns_from, has_record, record_of, get, field_value}
 use Rattle.store.specs.Slots.{slot_fits_is, has_record_is}
-use Rattle.store.specs.Laws.{has_fits, fits_most, fits_least, get_some, some_has, some_record}
+use Rattle.store.proofs.Laws.{has_fits, fits_most, fits_least, get_some, some_has, some_record}
 use Rattle.search.specs.declared.Occupied.TheVariants.{At, Nowhere}
 
 -- ---- the first of some numbers that passes

@@ -16,7 +16,7 @@ use Rattle.lists.specs.Pieces.{piece_piece}
 use Rattle.store.specs.Store.{slot_count, isns_from, has_record, record_of, field_value}
 use Rattle.search.specs.Search.{has_field, held, has_value, elsewhere}
 use Rattle.store.specs.Slots.{has_record_is, slot_inside}
-use Rattle.store.specs.Laws.{has_fits}
+use Rattle.store.proofs.Laws.{has_fits}
 
 -- a test of a slot that is one of the row, at its place
 pub held_here : (last size : ℕ) (part : List ℕ) (isn at : ℕ) → 1 ≤ isn → isn ≤ last → at ≡ (isn - 1) * size → (other offset : ℕ) (value : List ℕ) → held last size part other offset value isn ≡ (not (eqb isn other) && has_field part at offset value)

@@ -8,7 +8,7 @@ use Rattle.lists.specs.Tests.{and-false, Outcome, holds, fails, outcome}
 use Rattle.entries.specs.Entries.{entries}
 use Rattle.entries.specs.declared.Entry.{Entry}
 use Rattle.removal.specs.Removal.{goes}
-use Rattle.removal.specs.Picking.{entries_picked}
+use Rattle.removal.proofs.Picking.{entries_picked}
 use Rattle.nucleus.specs.Commands.{one_of, letting_go}
 use Rattle.nucleus.specs.Responses.{waiting_number}
 use Rattle.nucleus.specs.Nucleus.{Nucleus, request, max_capacity, entries_of}

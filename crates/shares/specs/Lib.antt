@@ -2,9 +2,3 @@ pub mod Shares
 pub mod Causes
 pub mod Chains
 pub mod Outcomes
-pub mod Laws
-pub mod LawsHolding
-pub mod LawsReading
-pub mod LawsChanging
-pub mod LawsEnding
-pub mod LawsRefused

@@ -1,5 +1,4 @@
 pub mod Store
 pub mod Slots
-pub mod Laws
 pub mod Files
 pub mod Examples

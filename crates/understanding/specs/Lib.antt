@@ -1,2 +1,1 @@
 pub mod Understanding
-pub mod Laws

@@ -7,7 +7,7 @@ use Rattle.definition.specs.declared.File.{File}
 use Rattle.store.specs.Store.{has_record}
 use Rattle.nucleus.specs.Rows.{first_cause}
 use Rattle.nucleus.specs.declared.Call.{Call}
-use Rattle.shares.specs.Laws.{last_passed}
+use Rattle.shares.proofs.Laws.{last_passed}
 use Rattle.shares.specs.Chains.{row_scratch, rows_brought, a1_cause}
 use Rattle.shares.specs.declared.Share.{Share}
 use Rattle.change_rows.specs.ChangeRows.{rows_changed}

@@ -14,7 +14,7 @@ use Rattle.layout.specs.Laws.{store_size_most, place_found, place_nowhere}
 use Rattle.records.specs.declared.Found.{Found}
 use Rattle.records.specs.declared.Found.TheVariants.{At, Nowhere}
 use Rattle.file_validity.specs.FileValidity.{file_valid}
-use Rattle.file_validity.specs.Laws.{ValidFile, valid_file}
+use Rattle.file_validity.proofs.Laws.{ValidFile, valid_file}
 use Rattle.validity.specs.Validity.{valid}
 
 -- ---- a valid definition

@@ -8,7 +8,7 @@ use lib.ListN.{length}
 use Rattle.lists.specs.Parts.{part, part_take}
 use Rattle.records.specs.Records.{record_length}
 use Rattle.store.specs.Store.{has_record, record_of}
-use Rattle.store.specs.Laws.{record_inside, record_of_length, put_over}
+use Rattle.store.proofs.Laws.{record_inside, record_of_length, put_over}
 use Rattle.fields.specs.Fields.{write_fields}
 use Rattle.fields.specs.Laws.{write_fields_length}
 use Rattle.amendment.specs.Amendment.{amended}

@@ -17,10 +17,10 @@ use Rattle.nucleus.specs.declared.Command.{Command}
 use Rattle.nucleus.specs.declared.Response.{Response}
 use Rattle.nucleus.specs.declared.State.{State}
 use Rattle.shares.specs.Causes.{verdict_refused, verdict_passed}
-use Rattle.usability.specs.Laws.{usable_valid, usable_long}
+use Rattle.usability.proofs.Laws.{usable_valid, usable_long}
 use Rattle.usability.specs.Sizes.{store_long, queue_long}
 use Rattle.understanding.specs.Understanding.{understood_as}
-use Rattle.understanding.specs.Laws.{refused_cause, understood_plain}
+use Rattle.understanding.proofs.Laws.{refused_cause, understood_plain}
 use Rattle.understanding.specs.declared.Understood.TheVariants.{As}
 use Rattle.calls.specs.Outcome.{outcome}
 use Rattle.calls.specs.declared.Outcome.{Outcome}

@@ -14,7 +14,7 @@ use Rattle.nucleus.specs.declared.Response.{Response}
 use Rattle.shares.specs.Shares.{verdict}
 use Rattle.shares.specs.Causes.{verdict_refused, verdict_passed}
 use Rattle.shares.specs.declared.Verdict.TheVariants.{Refused}
-use Rattle.usability.specs.Laws.{usable_long}
+use Rattle.usability.proofs.Laws.{usable_long}
 use Rattle.usability.specs.Sizes.{store_long}
 use Rattle.committed_places.specs.Places.{place_found}
 use borrow.Author.Rules.{rules}

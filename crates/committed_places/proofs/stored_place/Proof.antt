@@ -7,7 +7,7 @@ use lib.ListN.{length}
 use borrow.Author.Tests.{not-true, not-false}
 use Rattle.records.specs.Records.{record_length}
 use Rattle.store.specs.Store.{has_record}
-use Rattle.store.specs.Laws.{record_inside}
+use Rattle.store.proofs.Laws.{record_inside}
 use borrow.Author.Rules.{rules}
 use Rattle.committed_places.proofs.stored_place.Statement.{statement}
 use Rattle.committed_places.proofs.stored_place.Tie as tie

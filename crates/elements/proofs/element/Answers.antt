@@ -4,7 +4,7 @@ use Prim.Native.Nat.{◌-◌, ◌<◌}
 use native.Mathlib.Omega.{arith}
 use mathlib.Core.Path.{sym, ◌∙◌}
 use lib.ListN.{length}
-use Rattle.elements.specs.Steps.{element_name, element_none}
+use Rattle.elements.proofs.Steps.{element_name, element_none}
 use Rattle.elements.proofs.element.Goals as goal
 
 pub returns-then-format-at : goal.returns-then-format-at

@@ -5,7 +5,7 @@ use native.Mathlib.Omega.{arith}
 use mathlib.Core.Path.{sym, ◌∙◌}
 use lib.ListN.{length}
 use borrow.Author.Tests.{eq-eqb, ne_eqb}
-use Rattle.elements.specs.Steps.{form_more, form_last, form_short}
+use Rattle.elements.proofs.Steps.{form_more, form_last, form_short}
 use Rattle.elements.proofs.form.Goals as goal
 
 pub returns-then-format-i-ne-COMMA : goal.returns-then-format-i-ne-COMMA

@@ -8,8 +8,8 @@ use lib.ListN.{length-set}
 use borrow.Author.Rules.{rules}
 use Rattle.elements.specs.Elements.{places, named_twice}
 use Rattle.elements.specs.Lists.{repeats_twice}
-use Rattle.elements.specs.Steps.{places_step, places_end}
-use Rattle.elements.specs.Laws.{element_inside, places_below}
+use Rattle.elements.proofs.Steps.{places_step, places_end}
+use Rattle.elements.proofs.Laws.{element_inside, places_below}
 use Rattle.elements.proofs.named_twice.Goals as goal
 use Rattle.elements.proofs.named_twice.Goals.{in-At+else-seen-k, in_default}
 

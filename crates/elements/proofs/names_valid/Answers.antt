@@ -5,7 +5,7 @@ use mathlib.Core.Path.{sym, ◌∙◌}
 use mathlib.Core.Bool.{true}
 use borrow.Author.Rules.{rules}
 use Rattle.elements.specs.Elements.{form}
-use Rattle.elements.specs.Steps.{names_more, names_short, element_name}
+use Rattle.elements.proofs.Steps.{names_more, names_short, element_name}
 use Rattle.elements.proofs.names_valid.Goals as goal
 
 pub returns-then-not-form : goal.returns-then-not-form

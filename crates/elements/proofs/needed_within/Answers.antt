@@ -5,7 +5,7 @@ use mathlib.Core.Path.{◌≡◌, ap, ◌∙◌}
 use lib.ListN.{length}
 use borrow.Author.Tests.{le-leb, lt-leb}
 use Rattle.elements.specs.Elements.{length_of, length_needed, needed_within}
-use Rattle.elements.specs.Steps.{needed_step, needed_end}
+use Rattle.elements.proofs.Steps.{needed_step, needed_end}
 use Rattle.elements.proofs.needed_within.Goals as goal
 
 pub returns-then-room-sum : goal.returns-then-room-sum

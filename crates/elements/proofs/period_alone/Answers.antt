@@ -4,7 +4,7 @@ use mathlib.Core.Path.{sym}
 use mathlib.Core.List.{[], ◌∷◌}
 use Rattle.lists.specs.Tests.{eqbs_lengths}
 use Rattle.elements.specs.Elements.{period}
-use Rattle.elements.specs.Steps.{alone_only}
+use Rattle.elements.proofs.Steps.{alone_only}
 use Rattle.elements.proofs.period_alone.Goals as goal
 
 pub returns-then-format-ne1 : goal.returns-then-format-ne1

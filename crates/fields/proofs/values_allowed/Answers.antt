@@ -8,8 +8,8 @@ use mathlib.Core.Path.{◌≡◌, refl, sym, ap, ◌∙◌}
 use lib.ListN.{length, drop}
 use borrow.Author.Tests.{le-leb, lt-leb}
 use Rattle.elements.specs.Elements.{length_needed}
-use Rattle.elements.specs.Steps.{places_end}
-use Rattle.elements.specs.Laws.{needed_fits, needed_too_long}
+use Rattle.elements.proofs.Steps.{places_end}
+use Rattle.elements.proofs.Laws.{needed_fits, needed_too_long}
 use Rattle.fields.specs.Steps.{turn_span, needed_turn, allowed_turn}
 use Rattle.fields.proofs.values_allowed.Goals as goal
 use Rattle.fields.proofs.values_allowed.Goals.{After-allowed_span, After-span_at-s, At-loop-i}

@@ -7,8 +7,8 @@ use lib.Dec.{leb}
 use lib.ListN.{length, drop}
 use borrow.Author.Tests.{le-leb, lt-leb}
 use Rattle.elements.specs.Elements.{length_needed}
-use Rattle.elements.specs.Steps.{places_end}
-use Rattle.elements.specs.Laws.{needed_fits, needed_too_long}
+use Rattle.elements.proofs.Steps.{places_end}
+use Rattle.elements.proofs.Laws.{needed_fits, needed_too_long}
 use Rattle.lists.specs.Tests.{and-false}
 use Rattle.records.specs.Records.{record_length}
 use Rattle.definition.proofs.Known.{file_known}

@@ -9,7 +9,7 @@ use lib.ListN.{length}
 use borrow.Author.Rules.{rules}
 use borrow.Author.Tests.{not-true, not-false, lt-ltb, le-ltb}
 use Rattle.elements.specs.Elements.{format_valid, named_twice, length_needed}
-use Rattle.elements.specs.Laws.{needed_fits, needed_too_long}
+use Rattle.elements.proofs.Laws.{needed_fits, needed_too_long}
 use Rattle.formats.proofs.judged.Statement.{statement}
 use Rattle.formats.proofs.judged.Tie as tie
 

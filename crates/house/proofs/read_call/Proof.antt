@@ -3,7 +3,7 @@
 use mathlib.Core.Path.{sym, ap, ◌∙◌}
 use borrow.Author.Tests.{not-true, not-false}
 use Rattle.house.specs.House.{well_formed, call_of, sent_as}
-use Rattle.house.specs.Laws.{formed_length, formed_kind, formed_lengths, formed_sent}
+use Rattle.house.proofs.Laws.{formed_length, formed_kind, formed_lengths, formed_sent}
 use borrow.Author.Rules.{rules}
 use Rattle.house.proofs.read_call.Statement.{statement}
 use Rattle.house.proofs.read_call.Tie as tie

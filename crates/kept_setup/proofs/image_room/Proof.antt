@@ -5,7 +5,7 @@ use native.Mathlib.Nat.{mul-le-mul}
 use mathlib.Core.Path.{ap}
 use borrow.Author.Rules.{rules}
 use Rattle.definition.proofs.Known.{definition_known}
-use Rattle.kept_setup.specs.Laws.{image_length_most}
+use Rattle.kept_setup.proofs.Laws.{image_length_most}
 use Rattle.kept_setup.proofs.image_room.Statement.{statement}
 use Rattle.kept_setup.proofs.image_room.Tie as tie
 

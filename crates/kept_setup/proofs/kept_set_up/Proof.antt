@@ -1,7 +1,7 @@
 -- `kept_set_up` meets its contract. Assumes nothing.
 use mathlib.Core.Path.{ap, ◌∙◌}
 use borrow.Author.Rules.{rules}
-use Rattle.kept_setup.specs.Laws.{set_up_kept}
+use Rattle.kept_setup.proofs.Laws.{set_up_kept}
 use Rattle.kept_setup.proofs.kept_set_up.Statement.{statement}
 use Rattle.kept_setup.proofs.kept_set_up.Tie as tie
 

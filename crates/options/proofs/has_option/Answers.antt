@@ -43,9 +43,3 @@ returns-in-67 c =
 pub returns-in-87 : goal.returns-in-87
 unfolding has_option
 returns-in-87 c = c.may_wait.ensures ∙ sym (ap (has_option c.args.command) c.in-87.is)
-
-pub returns-in_default : goal.returns-in_default
-unfolding has_option
-returns-in_default c =
-    let r = c.in_default.in_default-own.rest in
-    rw (ne_eqb _ 32 r.0.0.0.0.0.1, ne_eqb _ 73 r.0.0.0.0.1, ne_eqb _ 72 r.0.0.0.1, ne_eqb _ 65 r.0.0.1, ne_eqb _ 67 r.0.1, ne_eqb _ 87 r.1)

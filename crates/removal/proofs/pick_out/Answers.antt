@@ -7,7 +7,7 @@ use mathlib.Core.List.{[]}
 use lib.ListN.{length, length-set}
 use lib.Seq.{sets}
 use Rattle.removal.specs.Removal.{goes, picked_out}
-use Rattle.removal.specs.Picking.{unpicked, unpicked_all, unpicked_goes, unpicked_stays, unpicked_none, unpicked_full, write_goes}
+use Rattle.removal.proofs.Picking.{unpicked, unpicked_all, unpicked_goes, unpicked_stays, unpicked_none, unpicked_full, write_goes}
 use Rattle.removal.proofs.pick_out.Goals as goal
 use Rattle.removal.proofs.pick_out.Goals.{At-loop-i}
 

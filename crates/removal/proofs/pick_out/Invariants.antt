@@ -5,7 +5,7 @@ use mathlib.Core.Path.{◌≡◌}
 use lib.ListN.{length}
 use lib.Seq.{sets}
 use Rattle.removal.specs.Removal.{picked_out}
-use Rattle.removal.specs.Picking.{unpicked}
+use Rattle.removal.proofs.Picking.{unpicked}
 use Rattle.removal.proofs.pick_out.Given as goal
 
 abbrev pub invariant-loop-i : goal.invariant-loop-i

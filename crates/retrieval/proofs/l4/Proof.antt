@@ -11,12 +11,12 @@ use borrow.Author.Rules.{rules}
 use borrow.Author.Tests.{not-false}
 use Rattle.definition.specs.declared.File.{File}
 use Rattle.store.specs.Store.{has_record}
-use Rattle.store.specs.Laws.{shown_length}
+use Rattle.store.proofs.Laws.{shown_length}
 use Rattle.nucleus.specs.Rows.{Row, first_cause}
 use Rattle.nucleus.specs.declared.Call.{Call}
 use Rattle.nucleus.specs.declared.Response.{Response}
 use Rattle.shares.specs.Causes.{verdict_refused, verdict_passed}
-use Rattle.shares.specs.Laws.{row_passed, last_passed}
+use Rattle.shares.proofs.Laws.{row_passed, last_passed}
 use Rattle.shares.specs.Chains.{row_waits, row_other, row_there, rows_room, sought_isn, l4_cause}
 use Rattle.shares.specs.Outcomes.{read_buffer}
 use Rattle.shares.specs.declared.Share.{Share}

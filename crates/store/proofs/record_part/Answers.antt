@@ -8,7 +8,7 @@ use lib.ListN.{length}
 use Rattle.lists.specs.Parts.{part_take}
 use Rattle.records.specs.Records.{record_length}
 use Rattle.store.specs.Store.{has_record}
-use Rattle.store.specs.Laws.{record_inside, shown_record, shown_none}
+use Rattle.store.proofs.Laws.{record_inside, shown_record, shown_none}
 use Rattle.store.proofs.record_part.Goals as goal
 use Rattle.store.proofs.record_part.Goals.{After-slot_offset-start}
 

@@ -11,7 +11,7 @@ use Rattle.nucleus.specs.Nucleus.{max_users}
 use Rattle.nucleus.specs.declared.Call.{Call}
 use Rattle.nucleus.specs.declared.Command.{Command}
 use Rattle.codes.specs.Laws.{letters_known, letters_unknown}
-use Rattle.understanding.specs.Laws.{unknown_command, unnamed_option, unknown_user, known_user}
+use Rattle.understanding.proofs.Laws.{unknown_command, unnamed_option, unknown_user, known_user}
 use borrow.Author.Rules.{rules}
 use Rattle.understanding.proofs.understand.Statement.{statement}
 use Rattle.understanding.proofs.understand.Tie as tie

@@ -12,7 +12,7 @@ use Rattle.nucleus.specs.Rows.{Row, first_cause}
 use Rattle.nucleus.specs.declared.Call.{Call}
 use Rattle.nucleus.specs.declared.Response.{Response}
 use Rattle.shares.specs.Causes.{causes_refused, causes_passed, verdict_refused, verdict_passed}
-use Rattle.shares.specs.Laws.{row_passed}
+use Rattle.shares.proofs.Laws.{row_passed}
 use Rattle.shares.specs.Chains.{max_scratch, row_scratch, rows_brought}
 use Rattle.shares.specs.declared.Share.{Share}
 use Rattle.change_rows.specs.ChangeRows.{rows_changed}

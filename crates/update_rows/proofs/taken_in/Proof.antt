@@ -8,7 +8,7 @@ use mathlib.Core.List.{List, ◌++◌}
 use lib.ListN.{length, take, drop, length-append}
 use lib.Seq.{length-take-le, take_at}
 use borrow.Author.Rules.{rules}
-use Rattle.store.specs.Laws.{shown_record, shown_length}
+use Rattle.store.proofs.Laws.{shown_record, shown_length}
 use Rattle.shares.specs.Chains.{replaced}
 use Rattle.update_rows.proofs.taken_in.Statement.{statement}
 use Rattle.update_rows.proofs.taken_in.Tie as tie

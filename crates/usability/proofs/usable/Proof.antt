@@ -15,7 +15,7 @@ use Rattle.nucleus.specs.declared.Response.TheVariants.{StateInvalid}
 use Rattle.shares.specs.Shares.{verdict}
 use Rattle.shares.specs.declared.Verdict.TheVariants.{Refused}
 use Rattle.entry_tables.specs.Laws.{entries_judged}
-use Rattle.usability.specs.Laws.{table_refused, sizes_refused, state_refused, state_passed, too_many, two_alike, entries_badly, users_badly, assigned_badly, data_badly, line_badly, all_made}
+use Rattle.usability.proofs.Laws.{table_refused, sizes_refused, state_refused, state_passed, too_many, two_alike, entries_badly, users_badly, assigned_badly, data_badly, line_badly, all_made}
 use Rattle.usability.proofs.Known.{state_known}
 use Rattle.usability.proofs.usable.Statement.{statement}
 use Rattle.usability.proofs.usable.Tie as tie

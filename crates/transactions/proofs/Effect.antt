@@ -12,7 +12,7 @@ use Rattle.lists.specs.Folds.{any, all, all_append}
 use Rattle.lists.specs.Sift.{keep, sift_sift, sift_ext, sift_append, all_map}
 use Rattle.transactions.specs.Slots.{Slot}
 use Rattle.transactions.specs.Machine.{Entry, Change, hold, release, release_all, change, end, back_out, Ground, Laws, new_entry, of_user, at_key, held_by_other, with_hold, imaged_entry, image_kept, Machine, restore, act, Journal, uncommitted_of, strike, closed, log, replay}
-use Rattle.transactions.specs.View.{Single, at, hit, back, back_sift, back_hold, back_image_kept, back_twice, plus, less, held, at_image_kept, back_change, back_still, single_map, single_hold, stay}
+use Rattle.transactions.proofs.View.{Single, at, hit, back, back_sift, back_hold, back_image_kept, back_twice, plus, less, held, at_image_kept, back_change, back_still, single_map, single_hold, stay}
 
 module _ (G : Ground) where
   open G use {Store, get, put, fresh, fit, keys, file, fields, value, Update, apply, may, judges}

@@ -30,8 +30,8 @@ use Rattle.nucleus.specs.declared.Response.{Response}
 use Rattle.shares.specs.Shares.{share_of}
 use Rattle.shares.specs.Chains.{rows_read, row_found, row_waits, row_other, row_there, version_at, sought, sought_isn, l1_cause, l4_cause, held_share, held_queue}
 use Rattle.shares.specs.Outcomes.{read_done, read_buffer, version_buffer, l1_done, l1_buffer, l4_done, l4_queue, l4_buffer}
-use Rattle.shares.specs.Laws.{result_on, kept_same, nothing_done, performed_as}
-use Rattle.shares.specs.LawsHolding.{room_left, held_is}
+use Rattle.shares.proofs.Laws.{result_on, kept_same, nothing_done, performed_as}
+use Rattle.shares.proofs.LawsHolding.{room_left, held_is}
 use Rattle.shares.specs.declared.Share.{Share}
 
 module _ (capacity : ℕ) (call : Call) (format buffer : List ℕ) (n : Nucleus) (i : ℕ) (there : place n.state.definition call.file ≡ found_at.At i) where

@@ -30,7 +30,7 @@ use Rattle.nucleus.specs.declared.Command.TheVariants.{Hi, Ri}
 use Rattle.shares.specs.Shares.{share_of, share_with_count, with_share, done}
 use Rattle.shares.specs.Chains.{in_use, holder_at, is_new, row_waits, row_other, rows_room, held_share, held_queue, hi_cause, ri_cause, left_count, left_queue, left_images, gone, released}
 use Rattle.shares.specs.Outcomes.{hi_done, hi_queue, ri_done, ri_queue, ri_images}
-use Rattle.shares.specs.Laws.{result_on, on_state, user_back, count_back, share_kept, last_passed, row_passed, kept_same, performed_as}
+use Rattle.shares.proofs.Laws.{result_on, on_state, user_back, count_back, share_kept, last_passed, row_passed, kept_same, performed_as}
 use Rattle.shares.specs.declared.Share.{Share}
 use Rattle.shares.specs.declared.Done.{Done}
 

@@ -18,7 +18,7 @@ use Rattle.nucleus.specs.declared.Command.TheVariants.{Ri}
 use Rattle.nucleus.specs.declared.Response.{Response}
 use Rattle.nucleus.specs.declared.Response.TheVariants.{FileUnknown, IsnInvalid}
 use Rattle.shares.specs.Shares.{share_of, done}
-use Rattle.shares.specs.Laws.{result_on, nothing_done}
+use Rattle.shares.proofs.Laws.{result_on, nothing_done}
 
 -- a refusal gives the share back as it was
 pub refusal_is : (call : Call) (buffer : List ℕ) (n : Nucleus) (cause : Response)

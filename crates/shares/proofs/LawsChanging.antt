@@ -39,8 +39,8 @@ use Rattle.nucleus.specs.declared.Response.TheVariants.{FileFull, ValueTaken}
 use Rattle.shares.specs.Shares.{share_of, with_share, kept_by}
 use Rattle.shares.specs.Chains.{max_scratch, row_other, row_there, row_empty, row_held, rows_brought, row_scratch, rows_room, held_share, queue_imaged, images_with, imaged_queue, imaged_images, e1_cause, a1_cause, n2_cause, n1_cause, replaced, added, taken, in_use, holder_at, is_free, free_isn}
 use Rattle.shares.specs.Outcomes.{changed_done, assigned_done, changed_queue, changed_images}
-use Rattle.shares.specs.Laws.{result_on, on_state, assigned_back, kept_same, performed_as}
-use Rattle.shares.specs.LawsHolding.{Room, room_left, held_on, held_is}
+use Rattle.shares.proofs.Laws.{result_on, on_state, assigned_back, kept_same, performed_as}
+use Rattle.shares.proofs.LawsHolding.{Room, room_left, held_on, held_is}
 use Rattle.shares.specs.declared.Share.{Share}
 
 -- ---- the ISN that N1 finds has no holder

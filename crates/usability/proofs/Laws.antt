@@ -18,7 +18,7 @@ use Rattle.nucleus.specs.Rows.{Row, row, first_cause, rows_usable}
 use Rattle.nucleus.specs.declared.Response.TheVariants.{BufferTooShort, StateInvalid}
 use Rattle.waiters_made.specs.Waiting.{waiters_fit, waiters_judged}
 use Rattle.shares.specs.Shares.{verdict}
-use Rattle.shares.specs.Laws.{row_passed}
+use Rattle.shares.proofs.Laws.{row_passed}
 use Rattle.shares.specs.declared.Verdict.{Verdict}
 use Rattle.shares.specs.declared.Verdict.TheVariants.{Passed, Refused}
 

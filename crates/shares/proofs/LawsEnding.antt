@@ -19,7 +19,7 @@ use Rattle.nucleus.specs.declared.Command.TheVariants.{Et, Bt, Re, Op, Cl, Pe}
 use Rattle.shares.specs.Shares.{share_of}
 use Rattle.shares.specs.Chains.{gone, left_count, left_queue, left_images, next_sequence, data_brought, et_cause, re_cause, re_buffer}
 use Rattle.shares.specs.Outcomes.{et_done, et_queue, et_images, bt_done, re_done, re_after, op_done, cl_done, pe_done}
-use Rattle.shares.specs.Laws.{result_on, on_state, share_back, user_back, kept_same, nothing_done, performed_as}
+use Rattle.shares.proofs.Laws.{result_on, on_state, share_back, user_back, kept_same, nothing_done, performed_as}
 use Rattle.shares.specs.declared.Share.{Share}
 
 module _ (capacity : ℕ) (call : Call) (format buffer : List ℕ) (n : Nucleus) where

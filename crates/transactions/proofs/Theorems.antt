@@ -15,8 +15,8 @@ use Rattle.lists.specs.Folds.{any, all}
 use Rattle.lists.specs.Sift.{all_keeps, any_elem}
 use Rattle.transactions.specs.Slots.{Bytes, Slot}
 use Rattle.transactions.specs.Machine.{Entry, Operation, hold, release, release_all, change, end, back_out, Ground, Laws, of_user, at_key, held_by_other, Machine, clash, taken, allowed, act, Journal, strike, log, replay, World, step, run, begin, back_outs, struck}
-use Rattle.transactions.specs.View.{Single, nobody, at, at_sift, hit, back, plus, less, single_hold, stay, back_stay}
-use Rattle.transactions.specs.Effect.{told, told_change, told_end, told_back_out, view, fitting, view_hold, view_release, view_release_all, view_end, view_back_out, view_other, view_change, view_still, single_change, fits_hold, fits_change, strike_stay}
+use Rattle.transactions.proofs.View.{Single, nobody, at, at_sift, hit, back, plus, less, single_hold, stay, back_stay}
+use Rattle.transactions.proofs.Effect.{told, told_change, told_end, told_back_out, view, fitting, view_hold, view_release, view_release_all, view_end, view_back_out, view_other, view_change, view_still, single_change, fits_hold, fits_change, strike_stay}
 
 module _ (G : Ground) where
   open G use {Store, get, put, fresh, fit, keys, file, fields, value, Update, apply, may, judges}

@@ -11,7 +11,7 @@ use Rattle.entries.specs.Entries.{pack_of, unpack_of, entries}
 use Rattle.entries.specs.Laws.{Shape, unpack_pack, unpack_shape}
 use Rattle.entries.specs.declared.Entry.{Entry}
 use Rattle.nucleus.specs.Nucleus.{max_capacity, entries_of}
-use Rattle.database.specs.Laws.{fitting_size}
+use Rattle.database.proofs.Laws.{fitting_size}
 use Rattle.database.specs.Database.{Database, fitting, fitting_in, words, in_words, with_words}
 
 -- ---- how many fit: all of H, or none

@@ -18,7 +18,7 @@ use Rattle.definition.specs.Shape.{FileShape}
 use Rattle.elements.specs.Search.{first_found, first_none}
 use Rattle.elements.specs.Elements.{comma, period, names, form, has_name, field_named, found, known, period_alone, names_valid, first_named, element, before, places_of, places, named_twice, length_at, length_needed, needed_within}
 use Rattle.elements.specs.Lists.{distinct_most}
-use Rattle.elements.specs.Steps.{name_at, names_more, element_name, places_step}
+use Rattle.elements.proofs.Steps.{name_at, names_more, element_name, places_step}
 use Rattle.definition.specs.declared.Name.{Name}
 use Rattle.definition.specs.declared.File.{File}
 use Rattle.records.specs.declared.Found.{Found}

@@ -1,0 +1,3 @@
+-- Theorems that rest on the definitions of specs/, for callers; nothing in specs/ cites them.
+pub mod Laws
+pub mod Tables

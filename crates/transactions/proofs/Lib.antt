@@ -1,0 +1,5 @@
+-- Theorems that rest on the definitions of specs/, for callers; nothing in specs/ cites them.
+pub mod View
+pub mod Single
+pub mod Effect
+pub mod Theorems
