@@ -4,6 +4,7 @@ use mathlib.Core.Path.{◌≡◌, sym, ap, ◌∙◌}
 use mathlib.Core.Bool.{or-false}
 use mathlib.Core.List.{[], ◌∷◌}
 use borrow.Author.Tests.{ne_eqb}
+use native.Mathlib.Omega.{arith}
 use Rattle.nucleus.specs.Commands.{one_of, reading_values, reading_committed, changing_held, has_option}
 use Rattle.nucleus.specs.declared.Command.TheVariants.{Op}
 use Rattle.options.proofs.has_option.Goals as goal
@@ -43,3 +44,9 @@ returns-in-67 c =
 pub returns-in-87 : goal.returns-in-87
 unfolding has_option
 returns-in-87 c = c.may_wait.ensures ∙ sym (ap (has_option c.args.command) c.in-87.is)
+
+pub returns-in_default : goal.returns-in_default
+unfolding has_option
+returns-in_default c =
+    let o = c.args.option in
+    rw (ne_eqb o 32 (omega arith), ne_eqb o 73 (omega arith), ne_eqb o 72 (omega arith), ne_eqb o 65 (omega arith), ne_eqb o 67 (omega arith), ne_eqb o 87 (omega arith))

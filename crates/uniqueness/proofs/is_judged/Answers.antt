@@ -1,5 +1,4 @@
 -- `is_judged` meets its contract. Assumes nothing.
-use borrow.Author.Tests.{not-true, not-false}
 use mathlib.Core.Path.{sym, ◌∙◌}
 use Rattle.uniqueness.proofs.is_judged.Goals as goal
 
@@ -7,7 +6,7 @@ pub returns-then-not-is_unique : goal.returns-then-not-is_unique
 returns-then-not-is_unique c = rw (sym c.is_unique.ensures ∙ c.if-not-is_unique.true)
 
 pub returns-then-not-named : goal.returns-then-not-named
-returns-then-not-named c = rw (sym c.is_unique.ensures ∙ c.if-not-is_unique.false, not-true c.args.named c.if-not-named.true)
+returns-then-not-named c = rw (sym c.is_unique.ensures ∙ c.if-not-is_unique.false, c.if-not-named.true)
 
 pub returns : goal.returns
-returns c = rw (sym c.is_unique.ensures ∙ c.if-not-is_unique.false, not-false c.args.named c.if-not-named.false) c.is_named.ensures
+returns c = rw (sym c.is_unique.ensures ∙ c.if-not-is_unique.false, c.if-not-named.false) c.is_named.ensures
