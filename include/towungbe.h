@@ -1,7 +1,7 @@
 /*
  * Towungbe: a record nucleus of users, holds and transactions, for C and C++.
  *
- * `rt staticlib towungbe` makes target/staticlib/libtowungbe.a. Link it, include this file, and:
+ * tools/staticlib makes target/staticlib/libtowungbe.a. Link it, include this file, and:
  *
  *   1. Ask towungbe_store_size and towungbe_image_size how long the buffers must be, and get them.
  *   2. Call towungbe_set_up once.

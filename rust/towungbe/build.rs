@@ -12,7 +12,7 @@ fn main() {
     println!("cargo::rerun-if-changed={}", archive.display());
     if !archive.is_file() {
         println!(
-            "cargo::error=target/staticlib/{ARCHIVE} is missing: run `rt staticlib towungbe` at the top of the repository"
+            "cargo::error=target/staticlib/{ARCHIVE} is missing: run `tools/staticlib` at the top of the repository"
         );
         exit(1);
     }

@@ -93,7 +93,7 @@ fn user(user: &User) -> String {
 }
 
 fn et_data(user: &User) -> String {
-    format!("et-data {} {}", user.et_length, bytes(&user.et_data))
+    format!("et_data {} {}", user.et_length, bytes(&user.et_data))
 }
 
 /// N1's mark of a file; one that no rule bounds where there is no such file.
@@ -156,7 +156,7 @@ pub fn outcome(answers: &[(Answer, Vec<u8>)], machine: &Machine, parts: &[Vec<u8
         line(&state.line),
         bytes(&machine.store),
         list(&seen_entries(machine), |(seen, image)| format!(
-            "with-image ({}) {}",
+            "with_image ({}) {}",
             entry(seen),
             bytes(image)
         )),

@@ -1,6 +1,6 @@
 //! The proved record nucleus for Rust programs: a safe crate over its static library.
 //!
-//! `rt staticlib towungbe`, at the top of the repository, makes the library; building this crate links it. What the
+//! `tools/staticlib`, at the top of the repository, makes the library; building this crate links it. What the
 //! nucleus does is document 01's; that it does so for every input and every list of calls is proved. What is not proved is
 //! this crate: it passes slices on as pointers and lengths, and numbers back as [`Response`].
 //!

@@ -133,7 +133,7 @@ fn list_law(seed: u64, calls: u64, tally: &mut Tally) -> Result<String, String> 
     let parts = tally.parts(&machine, &wanted);
     let fill = |length| terms::bytes(&vec![compare::FILL; length]);
     let computed = format!(
-        "list-outcome {} {} {} {} {} {} {}",
+        "list_outcome {} {} {} {} {} {} {}",
         terms::bytes(&list.table),
         list.capacity,
         fill(list.store),
@@ -149,7 +149,7 @@ fn list_law(seed: u64, calls: u64, tally: &mut Tally) -> Result<String, String> 
 fn state_law(name: &str, mut machine: Machine, list_call: &ListCall, tally: &mut Tally) -> String {
     let wanted = wanted(&machine);
     let computed = format!(
-        "call-outcome {} {} ({}) ({})",
+        "call_outcome {} {} ({}) ({})",
         machine.capacity,
         terms::wanted(&wanted),
         terms::given(list_call),
@@ -197,7 +197,7 @@ fn set_up_law(name: &str, random: &mut Random, tally: &mut Tally) -> String {
     tally.response(response.to_string());
     law(
         name,
-        &format!("made-by {capacity} {before} {}", terms::bytes(&table)),
+        &format!("made_by {capacity} {before} {}", terms::bytes(&table)),
         &format!("made {response} {}", terms::lent(&store, &queue, &images)),
     )
 }
