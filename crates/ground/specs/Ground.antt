@@ -5,19 +5,15 @@ use Rattle.std.proofs.Math.Option.{some}
 use Rattle.lists.specs.Folds.{any}
 use Rattle.lists.specs.Sift.{sift}
 use Rattle.definition.specs.Table.{field_at, field_count, is_unique}
-use Rattle.definition.specs.Shape.{DefinitionShape}
 use Rattle.definition.specs.declared.File.{File}
 use Rattle.definition.specs.declared.Definition.{Definition}
-use Rattle.validity.specs.Validity.{valid}
 use Rattle.lists.specs.Numbers.{numbers}
 use Rattle.store.specs.Store.{field_value}
 use Rattle.transactions.specs.Slots.{Bytes, Slot}
-use Rattle.transactions.specs.Machine.{Ground, Laws, Machine}
-use Rattle.ground.specs.Keys.{key_file, file_of, keys, known, keys_known}
+use Rattle.transactions.specs.Machine.{Ground, Machine}
+use Rattle.ground.specs.Keys.{key_file, file_of, keys, known}
 use Rattle.ground.specs.Store.{get, put, fit, fresh_store}
-use Rattle.ground.specs.StoreLaws.{get_put, get_other, get_fit}
 use Rattle.ground.specs.Queue.{queue_of}
-use Rattle.ground.specs.Fresh.{get_fresh_store}
 
 -- ---- the unique fields of a file, by their places
 unfoldable pub uniques : File → List ℕ
@@ -59,15 +55,3 @@ pub record UpdateLaws (d : Definition) (U : Updates) : Type 0 where
   pub kept : (c : U.Update) (k : ℕ) (x : Slot) (r : Bytes) (j : ℕ) → U.may c k x ≡ true → U.apply k c x ≡ some r
       → any (eqb j) (uniques (file_of d (key_file k))) ≡ true → U.judges c j ≡ false
       → (o : Bytes) × (x ≡ some o) × (field_value (file_of d (key_file k)) j o ≡ field_value (file_of d (key_file k)) j r)
-
--- then requirement 3's argument applies
-pub laws : (d : Definition) → DefinitionShape d → valid d ≡ true → (U : Updates) → UpdateLaws d U → (lent : List ℕ) → Laws (ground d U lent)
-laws d s v U L lent = record {
-  empty = get_fresh_store d s lent;
-  get_put = get_put d s;
-  get_other = λ store k x j h. get_other d s store k x h j;
-  get_fit = λ store k h. get_fit d s store k (rw (keys_known d s v k) at h);
-  may_key = λ c k x h. rw (keys_known d s v k) (L.may_known c k x h);
-  may_fit = L.may_fit;
-  kept = L.kept;
-}

@@ -1,16 +1,6 @@
 pub mod Keys
 pub mod Store
-pub mod StoreLaws
-pub mod Fresh
 pub mod Queue
-pub mod Reading
 pub mod Ground
-pub mod Restore
-pub mod Entries
-pub mod FirstChange
 pub mod Committed
-pub mod Unique
-pub mod Taken
-pub mod Kept
-pub mod Acts
 pub mod Examples

@@ -1,2 +1,1 @@
 pub mod KeptRun
-pub mod Theorem

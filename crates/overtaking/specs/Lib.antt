@@ -1,12 +1,3 @@
 pub mod Moments
 pub mod Statements
-pub mod Lines
-pub mod Room
-pub mod Stages
-pub mod Commands
-pub mod Serving
-pub mod Passing
-pub mod Usable
-pub mod Calls
-pub mod Theorem
 pub mod Examples

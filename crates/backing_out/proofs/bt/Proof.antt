@@ -28,8 +28,7 @@ same_length_3 c = search rules
 
 returns : tie.Need-returns
 returns c =
-    let e = c.before.before.before.before.before.before.before.before.before.back-out.ensures in
-    (rw (← e.0, ← c.before.ended.ensures) c.good2.ensures, (e.1.0, (e.1.1.0, e.1.1.1)))
+    (rw (← c.before.before.before.before.before.before.before.before.before.back-out.ensures.0, ← c.before.ended.ensures) c.good2.ensures, (c.before.before.before.before.before.before.before.before.before.back-out.ensures.1.0, (c.before.before.before.before.before.before.before.before.before.back-out.ensures.1.1.0, c.before.before.before.before.before.before.before.before.before.back-out.ensures.1.1.1)))
 
 pub bt_spec : {M : Type 1} → statement M
 bt_spec =

@@ -131,9 +131,8 @@ same_length_3 c = search rules
 returns : tie.Need-returns
 returns c =
     let s = c.before.before.before.before.before.before.before.before.before.before.before.before.before.before.before.before in
-    let e = c.before.before.before.before.et.ensures in
     as_told s Et _
-    (ended s.args.call s.args.most s.args.clock s.args.share s.args.d s.args.store.now s.args.queue.now s.args.images.now s.args.format.now s.args.buffer.now _ c.before.before.before.before.before.before.before.before.image-length.ensures _ s.args.store.now _ _ e.0 e.1.0 e.1.1)
+    (ended s.args.call s.args.most s.args.clock s.args.share s.args.d s.args.store.now s.args.queue.now s.args.images.now s.args.format.now s.args.buffer.now _ c.before.before.before.before.before.before.before.before.image-length.ensures _ s.args.store.now _ _ c.before.before.before.before.et.ensures.0 c.before.before.before.before.et.ensures.1.0 c.before.before.before.before.et.ensures.1.1)
     c.before.before.before.before.before.before.before.before.before.enum_told.given.1
 
 same_length_4 : tie.Need-same-length-4
@@ -149,9 +148,8 @@ returns_2 : tie.Need-returns-2
 returns_2 c =
     let told = c.before.before.before.before.before.before.before.before.before.before.before in
     let s = told.before.before.before.before.before.before.before in
-    let e = c.before.before.before.before.before.before.bt.ensures in
     as_told s Bt _
-    (backed_out s.args.call s.args.most s.args.clock s.args.share s.args.d s.args.store.now s.args.queue.now s.args.images.now s.args.format.now s.args.buffer.now _ c.before.before.before.before.before.before.before.before.before.before.image-length2.ensures _ _ _ _ e.0 e.1.0 e.1.1.0 e.1.1.1)
+    (backed_out s.args.call s.args.most s.args.clock s.args.share s.args.d s.args.store.now s.args.queue.now s.args.images.now s.args.format.now s.args.buffer.now _ c.before.before.before.before.before.before.before.before.before.before.image-length2.ensures _ _ _ _ c.before.before.before.before.before.before.bt.ensures.0 c.before.before.before.before.before.before.bt.ensures.1.0 c.before.before.before.before.before.before.bt.ensures.1.1.0 c.before.before.before.before.before.before.bt.ensures.1.1.1)
     told.enum-told2.given.1
 
 same_length_7 : tie.Need-same-length-7
@@ -161,8 +159,7 @@ returns_3 : tie.Need-returns-3
 unfolding performed
 returns_3 c =
     let s = c.before.before.before.before.before.before.before.before.before.before.before in
-    let e = c.before.before.re.ensures in
-    as_told s Re _ (λ i. left (e.0 i) s.args.store.now s.args.queue.now s.args.images.now (e.1 i)) c.before.before.before.before.enum-told3.given.1
+    as_told s Re _ (λ i. left (c.before.before.re.ensures.0 i) s.args.store.now s.args.queue.now s.args.images.now (c.before.before.re.ensures.1 i)) c.before.before.before.before.enum-told3.given.1
 
 returns_4 : tie.Need-returns-4
 unfolding performed

@@ -112,8 +112,7 @@ returns : tie.Need-returns
 unfolding on_file
 returns c =
     let s = c.before.before.before.before.before.before.before.before.before.before.before.before in
-    let e = c.before.before.hi.ensures in
-    as_told s Hi _ (λ i. left (e.0 i) s.args.part.now (e.1 i) s.args.images.now s.args.buffer.now) c.before.before.before.before.before.enum_told.given.1
+    as_told s Hi _ (λ i. left (c.before.before.hi.ensures.0 i) s.args.part.now (c.before.before.hi.ensures.1 i) s.args.images.now s.args.buffer.now) c.before.before.before.before.before.enum_told.given.1
 
 same_length_3 : tie.Need-same-length-3
 same_length_3 c = search rules
@@ -125,8 +124,7 @@ returns_2 : tie.Need-returns-2
 unfolding on_file
 returns_2 c =
     let s = c.before.before.before.before.before.before.before.before.before.before.before.before.before.before in
-    let e = c.before.before.before.before.ri.ensures in
-    as_told s Ri _ (λ i. left (e.0 i) s.args.part.now (e.1.0 i) (e.1.1 i) s.args.buffer.now) c.before.before.before.before.before.before.before.enum-told2.given.1
+    as_told s Ri _ (λ i. left (c.before.before.before.before.ri.ensures.0 i) s.args.part.now (c.before.before.before.before.ri.ensures.1.0 i) (c.before.before.before.before.ri.ensures.1.1 i) s.args.buffer.now) c.before.before.before.before.before.before.before.enum-told2.given.1
 
 same_length_5 : tie.Need-same-length-5
 same_length_5 c = search rules
@@ -144,8 +142,7 @@ returns_3 : tie.Need-returns-3
 unfolding on_file
 returns_3 c =
     let s = c.before.before.before.before.before.before.before.before.before.before.before.before.before.before in
-    let e = c.before.before.l1.ensures in
-    as_told s L1 _ (λ i. left (e.0 i) s.args.part.now s.args.queue.now s.args.images.now (e.1 i)) c.before.before.before.before.before.before.before.enum-told3.given.1
+    as_told s L1 _ (λ i. left (c.before.before.l1.ensures.0 i) s.args.part.now s.args.queue.now s.args.images.now (c.before.before.l1.ensures.1 i)) c.before.before.before.before.before.before.before.enum-told3.given.1
 
 same_length_9 : tie.Need-same-length-9
 same_length_9 c = search rules
@@ -160,8 +157,7 @@ returns_4 : tie.Need-returns-4
 unfolding on_file
 returns_4 c =
     let s = c.before.before.before.before.before.before.before.before.before.before.before.before.before.before.before in
-    let e = c.before.before.before.before.l4.ensures in
-    as_told s L4 _ (λ i. left (e.0 i) s.args.part.now (e.1.0 i) s.args.images.now (e.1.1 i)) c.before.before.before.before.before.before.before.before.enum-told4.given.1
+    as_told s L4 _ (λ i. left (c.before.before.before.before.l4.ensures.0 i) s.args.part.now (c.before.before.before.before.l4.ensures.1.0 i) s.args.images.now (c.before.before.before.before.l4.ensures.1.1 i)) c.before.before.before.before.before.before.before.before.enum-told4.given.1
 
 same_length_12 : tie.Need-same-length-12
 same_length_12 c = search rules
@@ -179,8 +175,7 @@ returns_5 : tie.Need-returns-5
 unfolding on_file
 returns_5 c =
     let s = c.before.before.before.before.before.before.before.before.before.before.before.before.before.before.before.before.before.before in
-    let e = c.before.before.before.before.before.before.a1.ensures in
-    as_told s A1 _ (λ i. left (e.0 i) (e.1.0 i) (e.1.1.0 i) (e.1.1.1 i) s.args.buffer.now) c.before.before.before.before.before.before.before.before.before.before.before.enum-told5.given.1
+    as_told s A1 _ (λ i. left (c.before.before.before.before.before.before.a1.ensures.0 i) (c.before.before.before.before.before.before.a1.ensures.1.0 i) (c.before.before.before.before.before.before.a1.ensures.1.1.0 i) (c.before.before.before.before.before.before.a1.ensures.1.1.1 i) s.args.buffer.now) c.before.before.before.before.before.before.before.before.before.before.before.enum-told5.given.1
 
 same_length_16 : tie.Need-same-length-16
 same_length_16 c = search rules
@@ -195,8 +190,7 @@ returns_6 : tie.Need-returns-6
 unfolding on_file
 returns_6 c =
     let s = c.before.before.before.before.before.before.before.before.before.before.before.before.before.before.before.before.before in
-    let e = c.before.before.before.before.before.before.e1.ensures in
-    as_told s E1 _ (λ i. left (e.0 i) (e.1.0 i) (e.1.1.0 i) (e.1.1.1 i) s.args.buffer.now) c.before.before.before.before.before.before.before.before.before.before.enum-told6.given.1
+    as_told s E1 _ (λ i. left (c.before.before.before.before.before.before.e1.ensures.0 i) (c.before.before.before.before.before.before.e1.ensures.1.0 i) (c.before.before.before.before.before.before.e1.ensures.1.1.0 i) (c.before.before.before.before.before.before.e1.ensures.1.1.1 i) s.args.buffer.now) c.before.before.before.before.before.before.before.before.before.before.enum-told6.given.1
 
 same_length_19 : tie.Need-same-length-19
 same_length_19 c = search rules
@@ -214,8 +208,7 @@ returns_7 : tie.Need-returns-7
 unfolding on_file
 returns_7 c =
     let s = c.before.before.before.before.before.before.before.before.before.before.before.before.before.before.before.before.before.before in
-    let e = c.before.before.before.before.before.before.n1.ensures in
-    as_told s N1 _ (λ i. left (e.0 i) (e.1.0 i) (e.1.1.0 i) (e.1.1.1 i) s.args.buffer.now) c.before.before.before.before.before.before.before.before.before.before.before.enum-told7.given.1
+    as_told s N1 _ (λ i. left (c.before.before.before.before.before.before.n1.ensures.0 i) (c.before.before.before.before.before.before.n1.ensures.1.0 i) (c.before.before.before.before.before.before.n1.ensures.1.1.0 i) (c.before.before.before.before.before.before.n1.ensures.1.1.1 i) s.args.buffer.now) c.before.before.before.before.before.before.before.before.before.before.before.enum-told7.given.1
 
 same_length_23 : tie.Need-same-length-23
 same_length_23 c = search rules
@@ -233,8 +226,7 @@ returns_8 : tie.Need-returns-8
 unfolding on_file
 returns_8 c =
     let s = c.before.before.before.before.before.before.before.before.before.before.before.before.before.before.before.before.before.before in
-    let e = c.before.before.before.before.before.before.n2.ensures in
-    as_told s N2 _ (λ i. left (e.0 i) (e.1.0 i) (e.1.1.0 i) (e.1.1.1 i) s.args.buffer.now) c.before.before.before.before.before.before.before.before.before.before.before.enum-told8.given.1
+    as_told s N2 _ (λ i. left (c.before.before.before.before.before.before.n2.ensures.0 i) (c.before.before.before.before.before.before.n2.ensures.1.0 i) (c.before.before.before.before.before.before.n2.ensures.1.1.0 i) (c.before.before.before.before.before.before.n2.ensures.1.1.1 i) s.args.buffer.now) c.before.before.before.before.before.before.before.before.before.before.before.enum-told8.given.1
 
 returns_9 : tie.Need-returns-9
 unfolding on_file

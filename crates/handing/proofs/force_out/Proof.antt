@@ -67,11 +67,10 @@ returns c kept assigned =
     let i = b.before.before.before.before in
     let p = i.before.before in
     let a = p.before.before.before.before.before.before.args in
-    let o = b.back-out.ensures in
     forced a.d a.clock a.standing kept assigned a.store.now a.queue.now a.images.now a.user _ i.image-length.result _ _ _ _ _ _ _ _
     (h.hand-over.ensures kept assigned b.back-out.last.1.1.1.1.1.0)
     (picked_go a.queue.now _ (replicate max_capacity 0) a.standing.count _ (All a.user) refl p.pick_out.ensures.0 p.pick_out.ensures.1) i.image-length.ensures
-    o.0 o.1.0 o.1.1.0 o.1.1.1
+    b.back-out.ensures.0 b.back-out.ensures.1.0 b.back-out.ensures.1.1.0 b.back-out.ensures.1.1.1
     (w.with-user.ensures ∙ ap (set a.standing.users (a.user - 1)) (e.ended.ensures ∙ ap ended u.user-at.ensures))
     l.leave.ensures
 

@@ -44,8 +44,7 @@ loop_again : tie.Need-loop-preserved invariant_loop decreases_loop
 loop_again c =
     let o = c.before.before.before.before.before.before in
     let t = o.before.before.before.before in
-    let k = o.time-out.auto.1.1.1.1 in
-    turn_due t.before.before.before.before.loop.invariant (omega arith) _ refl (sym t.before.is-due.ensures ∙ t.if1.true) _ _ _ _ o.time-out.ensures k.0 k.1.0 k.1.1.0
+    turn_due t.before.before.before.before.loop.invariant (omega arith) _ refl (sym t.before.is-due.ensures ∙ t.if1.true) _ _ _ _ o.time-out.ensures o.time-out.auto.1.1.1.1.0 o.time-out.auto.1.1.1.1.1.0 o.time-out.auto.1.1.1.1.1.1.0
 
 loop_less_2 : tie.Need-loop-smaller-2 invariant_loop decreases_loop
 loop_less_2 c = search rules

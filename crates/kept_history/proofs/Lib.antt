@@ -1,0 +1,2 @@
+-- Theorems that rest on the definitions of specs/, for callers; nothing in specs/ cites them.
+pub mod Theorem
