@@ -13,4 +13,11 @@ pub overflow_sub-gone : goal.overflow_sub-gone
 overflow_sub-gone c = rw c.let_go-count.ensures.value (remove_count_most _ _ _ _ _)
 
 pub returns : goal.returns
-returns c = let short = le-ltb _ _ c.if-buffer-gt-MAX_ET_DATA.false in record { value = rw short (rw (c.data_brought-et_data.ensures, c.ended-user.ensures, c.counted.ensures, c.next_sequence-sequence.ensures, c.let_go-count.ensures.value) at c.good2.ensures); queue_after = rw short c.let_go-count.ensures.queue_after; images_after = rw short c.let_go-count.ensures.images_after }
+returns c =
+    let short = le-ltb _ _ c.if-buffer-gt-MAX_ET_DATA.false in
+    let gone = c.let_go-count.ensures in
+    record {
+      value = rw short (rw (c.data_brought-et_data.ensures, c.ended-user.ensures, c.counted.ensures, c.next_sequence-sequence.ensures, gone.value) at c.good.ensures);
+      queue_after = rw short gone.queue_after;
+      images_after = rw short gone.images_after;
+    }

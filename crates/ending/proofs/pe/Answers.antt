@@ -2,4 +2,4 @@
 use Rattle.ending.proofs.pe.Goals as goal
 
 pub returns : goal.returns
-returns c = rw (← c.made_ready-user.ensures) c.good2.ensures
+returns c = rw (← c.made_ready-user.ensures) c.good.ensures

@@ -9,4 +9,4 @@ overflow_sub-gone c = rw c.let_go-left.ensures.value (remove_count_most _ _ _ _ 
 pub returns : goal.returns
 returns c =
     let e = c.let_go-left.ensures in
-    record { value = rw (← e.0) c.good2.ensures; queue_after = e.1.0; images_after = e.1.1 }
+    record { value = rw (← e.value) c.good.ensures; queue_after = e.queue_after; images_after = e.images_after }

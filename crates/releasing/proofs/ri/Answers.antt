@@ -12,22 +12,43 @@ returns-then-call-eq0 c =
 
 pub returns-in_default : goal.returns-in_default
 unfolding ri_cause
-returns-in_default c = let one = ne_eqb _ _ c.if-call-eq0.false in record { value = rw (one, ← c.holder-found.ensures, c.in_default.is) c.refused.ensures; queue_after = rw (one, ← c.holder-found.ensures, c.in_default.is); images_after = rw (one, ← c.holder-found.ensures, c.in_default.is) }
+returns-in_default c =
+    let one = ne_eqb _ _ c.if-call-eq0.false in
+    record {
+      value = rw (one, ← c.holder-found.ensures, c.in_default.is) c.refused.ensures;
+      queue_after = rw (one, ← c.holder-found.ensures, c.in_default.is);
+      images_after = rw (one, ← c.holder-found.ensures, c.in_default.is);
+    }
 
 pub returns-then-entry-call : goal.returns-then-entry-call
 unfolding ri_cause
 returns-then-entry-call c =
     let one = ne_eqb _ _ c.if-call-eq0.false in
-    let his = ne_eqb _ _ c.if-entry-call.true in record { value = rw (one, ← c.holder-found.ensures, c.in-Held.is, his) c.refused-then-entry-call.ensures; queue_after = rw (one, ← c.holder-found.ensures, c.in-Held.is, his); images_after = rw (one, ← c.holder-found.ensures, c.in-Held.is, his) }
+    let his = ne_eqb _ _ c.if-entry-call.true in
+    record {
+      value = rw (one, ← c.holder-found.ensures, c.in-Held.is, his) c.refused-then-entry-call.ensures;
+      queue_after = rw (one, ← c.holder-found.ensures, c.in-Held.is, his);
+      images_after = rw (one, ← c.holder-found.ensures, c.in-Held.is, his);
+    }
 
 pub returns-then-entry : goal.returns-then-entry
 unfolding ri_cause
 returns-then-entry c =
     let one = ne_eqb _ _ c.if-call-eq0.false in
-    let his = eq-eqb _ _ c.if-entry-call.false in record { value = rw (one, ← c.holder-found.ensures, c.in-Held.is, his, c.if-entry.true) c.refused-then-entry.ensures; queue_after = rw (one, ← c.holder-found.ensures, c.in-Held.is, his, c.if-entry.true); images_after = rw (one, ← c.holder-found.ensures, c.in-Held.is, his, c.if-entry.true) }
+    let his = eq-eqb _ _ c.if-entry-call.false in
+    record {
+      value = rw (one, ← c.holder-found.ensures, c.in-Held.is, his, c.if-entry.true) c.refused-then-entry.ensures;
+      queue_after = rw (one, ← c.holder-found.ensures, c.in-Held.is, his, c.if-entry.true);
+      images_after = rw (one, ← c.holder-found.ensures, c.in-Held.is, his, c.if-entry.true);
+    }
 
 pub returns : goal.returns
 unfolding ri_cause
 returns c =
     let one = ne_eqb _ _ c.if-call-eq0.false in
-    let his = eq-eqb _ _ c.if-entry-call.false in record { value = rw (one, ← c.holder-found.ensures, c.in-Held.is, his, c.if-entry.false) c.dropped-2.ensures.value; queue_after = rw (one, ← c.holder-found.ensures, c.in-Held.is, his, c.if-entry.false) c.dropped-2.ensures.queue_after; images_after = rw (one, ← c.holder-found.ensures, c.in-Held.is, his, c.if-entry.false) c.dropped-2.ensures.images_after }
+    let his = eq-eqb _ _ c.if-entry-call.false in
+    record {
+      value = rw (one, ← c.holder-found.ensures, c.in-Held.is, his, c.if-entry.false) c.dropped-2.ensures.value;
+      queue_after = rw (one, ← c.holder-found.ensures, c.in-Held.is, his, c.if-entry.false) c.dropped-2.ensures.queue_after;
+      images_after = rw (one, ← c.holder-found.ensures, c.in-Held.is, his, c.if-entry.false) c.dropped-2.ensures.images_after;
+    }
