@@ -7,4 +7,6 @@ pub overflow_sub-gone : goal.overflow_sub-gone
 overflow_sub-gone c = rw c.back_out-count.ensures.value (remove_count_most _ _ _ _ _)
 
 pub returns : goal.returns
-returns c = record { value = rw (← c.back_out-count.ensures.value, ← c.ended-user.ensures) c.good2.ensures; store_after = c.back_out-count.ensures.store_after; queue_after = c.back_out-count.ensures.queue_after; images_after = c.back_out-count.ensures.images_after }
+returns c =
+    let e = c.back_out-count.ensures in
+    record { value = rw (← e.value, ← c.ended-user.ensures) c.good.ensures; store_after = e.store_after; queue_after = e.queue_after; images_after = e.images_after }

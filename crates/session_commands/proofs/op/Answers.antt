@@ -2,4 +2,4 @@
 use Rattle.session_commands.proofs.op.Goals as goal
 
 pub returns : goal.returns
-returns c = rw (← c.set_session-user.ensures) c.good2.ensures
+returns c = rw (← c.set_session-user.ensures) c.good.ensures
