@@ -1,17 +1,15 @@
 -- Whoever owns a state knows the shape of its definition, and that it has all users and the ET data of each. In a proof: `state_known _ _ c.good.0` at a function's first parameter.
 -- Assumes nothing.
-use mathlib.Core.Path.{◌≡◌, sym, ◌∙◌}
+use mathlib.Core.Path.{◌≡◌}
 use mathlib.Core.List.{List}
 use mir.Val.{Val}
-use lib.ListN.{length, length-map}
+use lib.ListN.{length}
 use denote.Laws.{Is}
 use denote.Struct.Laws as Struct
 use Rattle.definition.specs.Shape.{DefinitionShape}
 use Rattle.definition.proofs.Known.{definition_known}
 use Rattle.nucleus.specs.Nucleus.{max_users}
 use Rattle.nucleus.specs.declared.State.{State}
-use Rattle.nucleus.specs.contracts.User as User'
-use Rattle.nucleus.specs.contracts.EtData as EtData'
 use Rattle.nucleus.specs.contracts.State as State'
 use Rattle.nucleus.proofs.State.TheLaws as State_laws
 
@@ -25,6 +23,6 @@ state_known s vs is =
     let k = Struct.owed State'.the_type State_laws.the_laws s vs is in
     record {
       definition = definition_known s.definition _ k.0;
-      users = sym (length-map s.users (User'.the_field).into) ∙ k.1.1.0.1.0.1;
-      held = sym (length-map s.et_data (EtData'.the_field).into) ∙ k.1.1.1.0.1.0.1;
+      users = k.1.1.0.1.0.1;
+      held = k.1.1.1.0.1.0.1;
     }

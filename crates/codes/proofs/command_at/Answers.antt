@@ -1,18 +1,14 @@
 -- `command_at` meets its contract: each arm's place computes to its command.
 -- Assumes nothing.
-use Prim.Native.Nat.{ℕ, ◌+◌, ◌≤◌}
+use Prim.Native.Nat.{◌≤◌}
 use native.Mathlib.Omega.{arith}
-use mathlib.Core.Path.{◌≡◌, sym, ap}
+use mathlib.Core.Path.{sym, ap}
 use mathlib.Core.List.{map}
 use lib.ListN.{get_or-eq_default}
 use Rattle.nucleus.specs.Commands.{direct_commands}
 use Rattle.codes.specs.Codes.{command_at}
 use Rattle.codes.specs.declared.Decoded.TheVariants.{Known, Unknown}
 use Rattle.codes.proofs.command_at.Goals as goal
-
--- a number that is not the least of those left is past it
-past : (k : ℕ) {n : ℕ} → k ≤ n → (n ≡ k → ⊥) → k + 1 ≤ n
-past k h other = omega arith
 
 pub returns-in-0 : goal.returns-in-0
 unfolding command_at
@@ -73,6 +69,5 @@ returns-in-13 c = sym (ap command_at c.in-13.is)
 pub returns-in_default : goal.returns-in_default
 unfolding command_at
 returns-in_default c =
-    let r = c.in_default.in_default-own.rest in
-    let end : 14 ≤ c.args.place = past 13 (past 12 (past 11 (past 10 (past 9 (past 8 (past 7 (past 6 (past 5 (past 4 (past 3 (past 2 (past 1 (past 0 (omega arith) r.0.0.0.0.0.0.0.0.0.0.0.0.0.1) r.0.0.0.0.0.0.0.0.0.0.0.0.1) r.0.0.0.0.0.0.0.0.0.0.0.1) r.0.0.0.0.0.0.0.0.0.0.1) r.0.0.0.0.0.0.0.0.0.1) r.0.0.0.0.0.0.0.0.1) r.0.0.0.0.0.0.0.1) r.0.0.0.0.0.0.1) r.0.0.0.0.0.1) r.0.0.0.0.1) r.0.0.0.1) r.0.0.1) r.0.1) r.1 in
+    let end : 14 ≤ c.args.place = omega arith in
     sym (get_or-eq_default (map Known direct_commands) Unknown end)

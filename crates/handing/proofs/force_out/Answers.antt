@@ -18,9 +18,10 @@ shape_of-store c = c.back_out-count.auto.store
 pub returns : goal.returns
 returns c kept assigned =
     let a = c.args in
+    let o = c.back_out-count.ensures in
     forced a.d a.clock a.standing kept assigned a.store.now a.queue.now a.images.now a.user _ c.image_length-width.result _ _ _ _ _ _ _ _
-    (c.hand_over.ensures kept assigned c.back_out-count.last.1.1.1.1.1.0)
+    (c.hand_over.ensures kept assigned c.back_out-count.new.images)
     (picked_go a.queue.now _ (replicate max_capacity 0) a.standing.count _ (All a.user) refl c.pick_out-n.ensures.value c.pick_out-n.ensures.out_after) c.image_length-width.ensures
-    c.back_out-count.ensures.value c.back_out-count.ensures.store_after c.back_out-count.ensures.queue_after c.back_out-count.ensures.images_after
+    o.value o.store_after o.queue_after o.images_after
     (c.with_user-people.ensures ∙ ap (set a.standing.users (a.user - 1)) (c.ended-out.ensures ∙ ap ended c.user_at-before.ensures))
     c.leave-others.ensures

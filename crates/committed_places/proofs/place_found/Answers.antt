@@ -1,0 +1,129 @@
+-- `place_found` meets its contract: the file's part of the store lies where `file_part` has it. Assumes nothing.
+use Prim.Native.Nat.{ℕ, ◌+◌, ◌-◌, ◌*◌, ◌≤◌, ◌<◌}
+use native.Mathlib.Omega.{arith}
+use mathlib.Core.Path.{◌≡◌, sym, ap, subst, ◌∙◌}
+use mathlib.Core.List.{List}
+use lib.ListN.{take, drop, length-take}
+use Rattle.lists.specs.Tests.{within_inside, within_below, within_above}
+use Rattle.definition.specs.Table.{file_at}
+use Rattle.definition.specs.Shape.{DefinitionShape, file_or_none_at}
+use Rattle.definition.specs.declared.Definition.{Definition}
+use Rattle.definition.specs.declared.File.{File}
+use Rattle.definition.proofs.Known.{definition_known}
+use Rattle.records.specs.Records.{file_size}
+use Rattle.records.specs.declared.Found.TheVariants.{At}
+use Rattle.layout.specs.Layout.{file_offset, store_size, image_length, place}
+use Rattle.store.specs.Files.{file_part_is}
+use Rattle.entries.specs.Entries.{entries}
+use Rattle.committed.specs.Committed.{committed_version, no_place, version_place}
+use Rattle.committed.specs.declared.Version.{Version}
+use Rattle.committed.specs.declared.Place.{Place}
+use Rattle.usability.specs.Parts.{store_size_bounded, found_inside, part_ends}
+use Rattle.committed_places.specs.Places.{place_found}
+use Rattle.committed_places.proofs.place_found.Goals as goal
+use Rattle.committed_places.proofs.place_found.Goals.{After-file_at-f, After-file_size, In-At}
+
+-- an ISN that is none of the file's, and one that is
+module _ (d : Definition) (count number isn : ℕ) (store queue images : List ℕ) (i : ℕ) where
+  abbrev placed : Place
+  placed = place_found d count number isn store queue images (At i)
+
+  below : isn < 1 → placed ≡ no_place
+  unfolding place_found
+  below low = rw (within_below 1 (file_at d i).max_isn isn low)
+
+  above : (file_at d i).max_isn < isn → placed ≡ no_place
+  unfolding place_found
+  above high = rw (within_above 1 (file_at d i).max_isn isn high)
+
+  handed : (f : File) (width start size : ℕ) (version : Version) → f ≡ file_at d i → width ≡ image_length d → start ≡ file_offset d i → size ≡ file_size (file_at d i)
+      → version ≡ committed_version (entries queue count) number isn → 1 ≤ isn → isn ≤ (file_at d i).max_isn
+      → (p : Place) → p ≡ version_place f start (take size (drop start store)) images width version isn → p ≡ placed
+  unfolding place_found
+  handed f width start size version same_file same_width_lem same_start same_size same_version least most p e =
+      e ∙ rw (within_inside 1 (file_at d i).max_isn isn least most, file_part_is d i store, same_file, same_width_lem, same_start, same_size, same_version)
+
+abbrev found_file : (c : In-At) → ℕ
+found_file c = c.in-At.i
+
+abbrev found_file_2 : (c : After-file_at-f) → ℕ
+found_file_2 c = c.in-At.i
+
+abbrev found_file_3 : (c : After-file_size) → ℕ
+found_file_3 c = c.in-At.i
+
+shape : (c : In-At) → DefinitionShape c.args.d
+shape c = definition_known _ _ c.well_formed.0
+
+shape_2 : (c : After-file_at-f) → DefinitionShape c.args.d
+shape_2 c = definition_known _ _ c.well_formed.0
+
+shape_3 : (c : After-file_size) → DefinitionShape c.args.d
+shape_3 c = definition_known _ _ c.well_formed.0
+
+there : (c : In-At) → place c.args.d c.args.file ≡ At (found_file c)
+there c = sym c.place-found.ensures ∙ c.in-At.is
+
+there_2 : (c : After-file_at-f) → place c.args.d c.args.file ≡ At (found_file_2 c)
+there_2 c = sym c.place-found.ensures ∙ c.in-At.is
+
+there_3 : (c : After-file_size) → place c.args.d c.args.file ≡ At (found_file_3 c)
+there_3 c = sym c.place-found.ensures ∙ c.in-At.is
+
+-- the file that is handed on
+file_is : (c : After-file_at-f) → c.file_at-f.result ≡ file_at c.args.d (found_file_2 c)
+file_is c =
+    c.file_at-f.ensures ∙ file_or_none_at c.args.d (found_file_2 c) (found_inside c.args.d (shape_2 c) _ _ (there_2 c))
+
+file_is_2 : (c : After-file_size) → c.file_at-f.result ≡ file_at c.args.d (found_file_3 c)
+file_is_2 c =
+    c.file_at-f.ensures ∙ file_or_none_at c.args.d (found_file_3 c) (found_inside c.args.d (shape_3 c) _ _ (there_3 c))
+
+-- the part begins at the file's offset, has the file's size and ends within the store
+ends : (c : After-file_size) → (c.file_size.result ≡ file_size (file_at c.args.d (found_file_3 c))) × (c.file_offset-start.result + c.file_size.result ≤ store_size c.args.d)
+ends c =
+    let size = c.file_size.ensures ∙ ap file_size (file_is_2 c) in
+    (size, omega (arith, size, c.file_offset-start.ensures, part_ends c.args.d (shape_3 c) _ _ (there_3 c)))
+
+-- and no store is too large for a number
+bounded : (c : In-At) → store_size c.args.d ≤ 16 * 267448335
+bounded c = store_size_bounded c.args.d (shape c)
+
+pub returns-in_default : goal.returns-in_default
+unfolding place_found
+returns-in_default c = rw (← c.place-found.ensures, c.in_default.is) c.no_place.ensures
+
+pub returns-then-isn-lt1 : goal.returns-then-isn-lt1
+returns-then-isn-lt1 c =
+    let a = c.args in
+    c.no_place-then-isn-lt1.ensures ∙ sym (rw (there (goal.at.returns-then-isn-lt1 c).In-At) (below a.d a.count a.file a.isn a.store.now a.queue.now a.images.now (found_file (goal.at.returns-then-isn-lt1 c).In-At) c.if-isn-lt1.true))
+
+pub returns-then-f-isn : goal.returns-then-f-isn
+returns-then-f-isn c =
+    let a = c.args in
+    let high = subst (λ (f : File). f.max_isn < a.isn) (file_is (goal.at.returns-then-f-isn c).After-file_at-f) c.if-f-isn.true in
+    c.no_place-then-f-isn.ensures ∙ sym (rw (there (goal.at.returns-then-f-isn c).In-At) (above a.d a.count a.file a.isn a.store.now a.queue.now a.images.now (found_file (goal.at.returns-then-f-isn c).In-At) high))
+
+pub overflow_add-end : goal.overflow_add-end
+overflow_add-end c = omega (arith, ends (goal.at.overflow_add-end c).After-file_size, bounded (goal.at.overflow_add-end c).In-At)
+
+pub slice_bounds-version_place-end : goal.slice_bounds-version_place-end
+slice_bounds-version_place-end c = omega (arith, ends (goal.at.slice_bounds-version_place-end c).After-file_size, c.requires)
+
+pub version_place-requires : goal.version_place-requires
+version_place-requires c =
+    let a = c.args in
+    let start = c.file_offset-start.result in
+    let size = c.file_size.result in
+    let cut = length-take (start + size - start) (drop start a.store.now) in
+    omega (arith, cut, ends (goal.at.version_place-requires c).After-file_size, bounded (goal.at.version_place-requires c).In-At)
+
+pub returns : goal.returns
+returns c =
+    let a = c.args in
+    let start = c.file_offset-start.result in
+    let size : start + c.file_size.result - start ≡ file_size (file_at a.d (found_file (goal.at.returns c).In-At)) = omega (arith, ends (goal.at.returns c).After-file_size) in
+    let most = subst (λ (f : File). a.isn ≤ f.max_isn) (file_is (goal.at.returns c).After-file_at-f) (omega (arith, c.if-f-isn.false)) in
+    rw (there (goal.at.returns c).In-At)
+    (handed a.d a.count a.file a.isn a.store.now a.queue.now a.images.now (found_file (goal.at.returns c).In-At) _ _ _ _ _ (file_is (goal.at.returns c).After-file_at-f) c.image_length-width.ensures c.file_offset-start.ensures size
+    c.committed_version-version.ensures (omega (arith, c.if-isn-lt1.false)) most _ c.version_place.ensures)
