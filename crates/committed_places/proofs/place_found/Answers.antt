@@ -5,7 +5,7 @@ use mathlib.Core.Path.{◌≡◌, sym, ap, subst, ◌∙◌}
 use mathlib.Core.List.{List}
 use lib.ListN.{take, drop, length-take}
 use Rattle.lists.specs.Tests.{within_inside, within_below, within_above}
-use Rattle.definition.specs.Table.{file_at}
+use Rattle.definition.specs.Table.{file_at, file_or_none}
 use Rattle.definition.specs.Shape.{DefinitionShape, file_or_none_at}
 use Rattle.definition.specs.declared.Definition.{Definition}
 use Rattle.definition.specs.declared.File.{File}
@@ -21,7 +21,7 @@ use Rattle.committed.specs.declared.Place.{Place}
 use Rattle.usability.specs.Parts.{store_size_bounded, found_inside, part_ends}
 use Rattle.committed_places.specs.Places.{place_found}
 use Rattle.committed_places.proofs.place_found.Goals as goal
-use Rattle.committed_places.proofs.place_found.Goals.{After-file_at-f, After-file_size, In-At}
+use Rattle.committed_places.proofs.place_found.Goals.{In-At}
 
 -- an ISN that is none of the file's, and one that is
 module _ (d : Definition) (count number isn : ℕ) (store queue images : List ℕ) (i : ℕ) where
@@ -43,47 +43,22 @@ module _ (d : Definition) (count number isn : ℕ) (store queue images : List �
   handed f width start size version same_file same_width_lem same_start same_size same_version least most p e =
       e ∙ rw (within_inside 1 (file_at d i).max_isn isn least most, file_part_is d i store, same_file, same_width_lem, same_start, same_size, same_version)
 
-abbrev found_file : (c : In-At) → ℕ
-found_file c = c.in-At.i
-
-abbrev found_file_2 : (c : After-file_at-f) → ℕ
-found_file_2 c = c.in-At.i
-
-abbrev found_file_3 : (c : After-file_size) → ℕ
-found_file_3 c = c.in-At.i
-
 shape : (c : In-At) → DefinitionShape c.args.d
 shape c = definition_known _ _ c.well_formed.0
 
-shape_2 : (c : After-file_at-f) → DefinitionShape c.args.d
-shape_2 c = definition_known _ _ c.well_formed.0
-
-shape_3 : (c : After-file_size) → DefinitionShape c.args.d
-shape_3 c = definition_known _ _ c.well_formed.0
-
-there : (c : In-At) → place c.args.d c.args.file ≡ At (found_file c)
+there : (c : In-At) → place c.args.d c.args.file ≡ At c.in-At.i
 there c = sym c.place-found.ensures ∙ c.in-At.is
 
-there_2 : (c : After-file_at-f) → place c.args.d c.args.file ≡ At (found_file_2 c)
-there_2 c = sym c.place-found.ensures ∙ c.in-At.is
-
-there_3 : (c : After-file_size) → place c.args.d c.args.file ≡ At (found_file_3 c)
-there_3 c = sym c.place-found.ensures ∙ c.in-At.is
-
 -- the file that is handed on
-file_is : (c : After-file_at-f) → c.file_at-f.result ≡ file_at c.args.d (found_file_2 c)
-file_is c =
-    c.file_at-f.ensures ∙ file_or_none_at c.args.d (found_file_2 c) (found_inside c.args.d (shape_2 c) _ _ (there_2 c))
-
-file_is_2 : (c : After-file_size) → c.file_at-f.result ≡ file_at c.args.d (found_file_3 c)
-file_is_2 c =
-    c.file_at-f.ensures ∙ file_or_none_at c.args.d (found_file_3 c) (found_inside c.args.d (shape_3 c) _ _ (there_3 c))
+file_is : (c : In-At) (f : File) → f ≡ file_or_none c.args.d c.in-At.i → f ≡ file_at c.args.d c.in-At.i
+file_is c f e = e ∙ file_or_none_at c.args.d c.in-At.i (found_inside c.args.d (shape c) _ _ (there c))
 
 -- the part begins at the file's offset, has the file's size and ends within the store
-ends : (c : After-file_size) → (c.file_size.result ≡ file_size (file_at c.args.d (found_file_3 c))) × (c.file_offset-start.result + c.file_size.result ≤ store_size c.args.d)
-ends c =
-    let size = c.file_size.ensures ∙ ap file_size (file_is_2 c) in
-    (size, omega (arith, size, c.file_offset-start.ensures, part_ends c.args.d (shape_3 c) _ _ (there_3 c)))
+ends : (c : In-At) (f : File) (start size : ℕ) → f ≡ file_or_none c.args.d c.in-At.i → start ≡ file_offset c.args.d c.in-At.i → size ≡ file_size f
+    → (size ≡ file_size (file_at c.args.d c.in-At.i)) × (start + size ≤ store_size c.args.d)
+ends c f start size same_file same_start same_size =
+    let all = same_size ∙ ap file_size (file_is c f same_file) in
+    (all, omega (arith, all, same_start, part_ends c.args.d (shape c) _ _ (there c)))
 
 -- and no store is too large for a number
 bounded : (c : In-At) → store_size c.args.d ≤ 16 * 267448335
@@ -96,34 +71,43 @@ returns-in_default c = rw (← c.place-found.ensures, c.in_default.is) c.no_plac
 pub returns-then-isn-lt1 : goal.returns-then-isn-lt1
 returns-then-isn-lt1 c =
     let a = c.args in
-    c.no_place-then-isn-lt1.ensures ∙ sym (rw (there (goal.at.returns-then-isn-lt1 c).In-At) (below a.d a.count a.file a.isn a.store.now a.queue.now a.images.now (found_file (goal.at.returns-then-isn-lt1 c).In-At) c.if-isn-lt1.true))
+    c.no_place-then-isn-lt1.ensures
+    ∙ sym (rw (there (goal.at.returns-then-isn-lt1 c).In-At) (below a.d a.count a.file a.isn a.store.now a.queue.now a.images.now c.in-At.i c.if-isn-lt1.true))
 
 pub returns-then-f-isn : goal.returns-then-f-isn
 returns-then-f-isn c =
     let a = c.args in
-    let high = subst (λ (f : File). f.max_isn < a.isn) (file_is (goal.at.returns-then-f-isn c).After-file_at-f) c.if-f-isn.true in
-    c.no_place-then-f-isn.ensures ∙ sym (rw (there (goal.at.returns-then-f-isn c).In-At) (above a.d a.count a.file a.isn a.store.now a.queue.now a.images.now (found_file (goal.at.returns-then-f-isn c).In-At) high))
+    let k = (goal.at.returns-then-f-isn c).In-At in
+    let high = subst (λ (f : File). f.max_isn < a.isn) (file_is k _ c.file_at-f.ensures) c.if-f-isn.true in
+    c.no_place-then-f-isn.ensures ∙ sym (rw (there k) (above a.d a.count a.file a.isn a.store.now a.queue.now a.images.now c.in-At.i high))
 
 pub overflow_add-end : goal.overflow_add-end
-overflow_add-end c = omega (arith, ends (goal.at.overflow_add-end c).After-file_size, bounded (goal.at.overflow_add-end c).In-At)
+overflow_add-end c =
+    let k = (goal.at.overflow_add-end c).In-At in
+    omega (arith, ends k _ _ _ c.file_at-f.ensures c.file_offset-start.ensures c.file_size.ensures, bounded k)
 
 pub slice_bounds-version_place-end : goal.slice_bounds-version_place-end
-slice_bounds-version_place-end c = omega (arith, ends (goal.at.slice_bounds-version_place-end c).After-file_size, c.requires)
+slice_bounds-version_place-end c =
+    let k = (goal.at.slice_bounds-version_place-end c).In-At in
+    omega (arith, ends k _ _ _ c.file_at-f.ensures c.file_offset-start.ensures c.file_size.ensures, c.requires)
 
 pub version_place-requires : goal.version_place-requires
 version_place-requires c =
-    let a = c.args in
+    let k = (goal.at.version_place-requires c).In-At in
     let start = c.file_offset-start.result in
     let size = c.file_size.result in
-    let cut = length-take (start + size - start) (drop start a.store.now) in
-    omega (arith, cut, ends (goal.at.version_place-requires c).After-file_size, bounded (goal.at.version_place-requires c).In-At)
+    let cut = length-take (start + size - start) (drop start c.args.store.now) in
+    omega (arith, cut, ends k _ _ _ c.file_at-f.ensures c.file_offset-start.ensures c.file_size.ensures, bounded k)
 
 pub returns : goal.returns
 returns c =
     let a = c.args in
+    let k = (goal.at.returns c).In-At in
+    let f = file_is k _ c.file_at-f.ensures in
     let start = c.file_offset-start.result in
-    let size : start + c.file_size.result - start ≡ file_size (file_at a.d (found_file (goal.at.returns c).In-At)) = omega (arith, ends (goal.at.returns c).After-file_size) in
-    let most = subst (λ (f : File). a.isn ≤ f.max_isn) (file_is (goal.at.returns c).After-file_at-f) (omega (arith, c.if-f-isn.false)) in
-    rw (there (goal.at.returns c).In-At)
-    (handed a.d a.count a.file a.isn a.store.now a.queue.now a.images.now (found_file (goal.at.returns c).In-At) _ _ _ _ _ (file_is (goal.at.returns c).After-file_at-f) c.image_length-width.ensures c.file_offset-start.ensures size
+    let end = ends k _ _ _ c.file_at-f.ensures c.file_offset-start.ensures c.file_size.ensures in
+    let size : start + c.file_size.result - start ≡ file_size (file_at a.d c.in-At.i) = omega (arith, end) in
+    let most = subst (λ (f : File). a.isn ≤ f.max_isn) f (omega (arith, c.if-f-isn.false)) in
+    rw (there k)
+    (handed a.d a.count a.file a.isn a.store.now a.queue.now a.images.now c.in-At.i _ _ _ _ _ f c.image_length-width.ensures c.file_offset-start.ensures size
     c.committed_version-version.ensures (omega (arith, c.if-isn-lt1.false)) most _ c.version_place.ensures)
