@@ -4,7 +4,6 @@ use mathlib.Core.Path.{◌≡◌, sym, ap, ◌∙◌}
 use mathlib.Core.Bool.{true, false}
 use mathlib.Core.List.{List}
 use lib.Dec.{eqb}
-use borrow.Author.Rules.{rules}
 use borrow.Author.Tests.{eq-eqb, ne_eqb}
 use Rattle.lists.specs.Tests.{cond}
 use Rattle.definition.specs.declared.Definition.{Definition}
@@ -17,8 +16,7 @@ use Rattle.shares.specs.declared.Done.{Done}
 use Rattle.shares.specs.declared.Share.{Share}
 use Rattle.file_commands.specs.FileCommands.{Left, left}
 use Rattle.calls.specs.Commands.{in_file, about_file, performed}
-use Rattle.calls.proofs.ri.Statement.{statement}
-use Rattle.calls.proofs.ri.Tie as tie
+use Rattle.calls.proofs.ri.Goals as goal
 
 module _ (call : Call) (most clock : ℕ) (x : Share) (d : Definition) (store queue images format buffer : List ℕ) where
   -- what RI of ISN 0 leaves, by the length of an image
@@ -39,61 +37,12 @@ module _ (call : Call) (most clock : ℕ) (x : Share) (d : Definition) (store qu
       → l ≡ performed call most clock x d store queue images format buffer Ri
   one_released one found same_found l e = e ∙ ap (λ at. in_file call most clock x d store queue images format buffer at Ri) same_found ∙ of_ri one
 
-image_length_requires : tie.Need-image-length-requires
-image_length_requires c κs = search rules
+pub returns-then-call-eq0 : goal.returns-then-call-eq0
+returns-then-call-eq0 c =
+    all_released c.args.call c.args.most c.args.clock c.args.share c.args.d c.args.store.now c.args.queue.now c.args.images.now c.args.format.now c.args.buffer.now
+    (eq-eqb _ _ c.if-call-eq0.true) _ c.image_length-width.ensures _ _ _ c.ri.ensures.value c.ri.ensures.queue_after c.ri.ensures.images_after
 
-ri_requires : tie.Need-ri-requires
-ri_requires c κs = search rules
-
-same_length : tie.Need-same-length
-same_length c = search rules
-
-same_length_2 : tie.Need-same-length-2
-same_length_2 c = search rules
-
-returns : tie.Need-returns
+pub returns : goal.returns
 returns c =
-    let r = c.before.before.before.before in
-    let t = r.before.before.before.before in
-    let s = t.before.before.before.before.before.before.before in
-    all_released s.args.call s.args.most s.args.clock s.args.share s.args.d s.args.store.now s.args.queue.now s.args.images.now s.args.format.now s.args.buffer.now
-    (eq-eqb _ _ t.if1.true) _ r.before.before.before.image-length.ensures _ _ _ r.ri.ensures.0 r.ri.ensures.1.0 r.ri.ensures.1.1
-
-in_file_requires : tie.Need-in-file-requires
-in_file_requires c κs = search rules
-
-same_length_3 : tie.Need-same-length-3
-same_length_3 c = search rules
-
-same_length_4 : tie.Need-same-length-4
-same_length_4 c = search rules
-
-same_length_5 : tie.Need-same-length-5
-same_length_5 c = search rules
-
-same_length_6 : tie.Need-same-length-6
-same_length_6 c = search rules
-
-returns_2 : tie.Need-returns-2
-returns_2 c =
-    let f = c.before.before.before.before.before.before.before.before in
-    let t = f.before.before.before.before.before in
-    let s = t.before.before.before.before.before.before.before in
-    one_released s.args.call s.args.most s.args.clock s.args.share s.args.d s.args.store.now s.args.queue.now s.args.images.now s.args.format.now s.args.buffer.now
-    (ne_eqb _ _ t.if1.false) _ s.requires.0 _ f.in-file.ensures
-
-pub ri_spec : {M : Type 1} → statement M
-ri_spec =
-    tie.close
-    (tie.spec
-    image_length_requires
-    ri_requires
-    same_length
-    same_length_2
-    returns
-    in_file_requires
-    same_length_3
-    same_length_4
-    same_length_5
-    same_length_6
-    returns_2)
+    one_released c.args.call c.args.most c.args.clock c.args.share c.args.d c.args.store.now c.args.queue.now c.args.images.now c.args.format.now c.args.buffer.now
+    (ne_eqb _ _ c.if-call-eq0.false) _ c.requires.found_value _ c.in_file.ensures
