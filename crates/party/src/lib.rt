@@ -2,8 +2,14 @@
 // line is printed. What has to be decided is decided below; here it is read and written. Nothing is held but the table and one call.
 #![tactic(auto)]
 
-ghost use Rattle.std.specs.Prelude.{◌≤◌, length, IfOk};
+ghost use Rattle.std.specs.Prelude.{◌≡◌, ◌-◌, ◌^◌, ◌≤◌, ◌<◌, ◌∷◌, ◌++◌, [], length, take, IfOk, OnOk, IfSome};
+ghost use Rattle.std.specs.Io.KnownBytes.{Appends};
 ghost use Rattle.lines.specs.Lines.{Within};
+ghost use Rattle.nucleus.specs.Nucleus.{nucleus};
+ghost use Rattle.nucleus.specs.Step.{step};
+ghost use Rattle.nucleus.specs.Line.{line_of};
+ghost use Rattle.output.specs.Output.{bad, capacity, newline, output};
+ghost use Rattle.party.specs.Serving.{Filled, ItemRead, NoItem, TableRead, CallPrinted, lines_of, OneServed};
 
 use house::Rest;
 use nucleus::{Answer, Call, State};
@@ -23,20 +29,16 @@ const IMAGES: usize = 32768;
 // A line has at most 84 bytes, and two for each of a record buffer (lines, `line_most`); then comes its end.
 const LINE: usize = 155;
 
-// The state, and how many calls may come still. No list ends by that count, but a loop has to end, and nothing says that the input does.
-#[derive(Clone, Copy)]
-struct Turn {
-    left: u64,
-    state: State,
-}
-
-fn print_bad(output: &mut impl Write) -> io::Result<()> {
-    output.write_all(b"bad\n")
+fn print_bad<W: Write>(out: &mut W) -> io::Result<()>
+    ensures { OnOk result (Appends (W.contents out.old) (W.contents out.new) bad) }
+{
+    out.write_all(b"bad\n")
 }
 
 // Reads until the buffer is full or the input ends; answers how many bytes came.
-fn read_full(input: &mut impl Read, buffer: &mut [u8]) -> io::Result<usize>
-    ensures { IfOk result (λ n. Within n buffer.new) }
+fn read_full<R: Read>(input: &mut R, buffer: &mut [u8]) -> io::Result<usize>
+    ensures within { IfOk result (λ n. Within n buffer.new) }
+    ensures bytes { IfOk result (λ n. Filled (R.remaining input.old) (R.remaining input.new) n buffer.new) }
 {
     let mut done = 0;
     while done < buffer.len() {
@@ -50,8 +52,10 @@ fn read_full(input: &mut impl Read, buffer: &mut [u8]) -> io::Result<usize>
 }
 
 // The next item, read to a place of the table; answers the place behind it, or 0 where it is cut, unknown or finds no room.
-fn read_item(input: &mut impl Read, table: &mut [u8], at: usize) -> io::Result<usize>
-    ensures { IfOk result (λ n. n ≤ length table.old) }
+fn read_item<R: Read>(input: &mut R, table: &mut [u8], at: usize) -> io::Result<usize>
+    ensures within { IfOk result (λ next. next ≤ length table.old) }
+    ensures item { IfOk result (λ next. at < next → IfSome (R.remaining input.old) (λ xs. ItemRead xs (R.remaining input.new) at next table.old table.new)) }
+    ensures none { IfOk result (λ next. next ≤ at → IfSome (R.remaining input.old) (λ xs. NoItem xs (length table.old - at))) }
 {
     if table.len() <= at {
         return Ok(0);
@@ -74,8 +78,9 @@ fn read_item(input: &mut impl Read, table: &mut [u8], at: usize) -> io::Result<u
 }
 
 // The items up to the end, which is one of a single byte; answers the table's length, or 0 where there is none.
-fn read_table(input: &mut impl Read, table: &mut [u8]) -> io::Result<usize>
-    ensures { IfOk result (λ n. Within n table.new) }
+fn read_table<R: Read>(input: &mut R, table: &mut [u8]) -> io::Result<usize>
+    ensures within { IfOk result (λ n. Within n table.new) }
+    ensures found { 1601 ≤ length table.old → IfOk result (λ n. IfSome (R.remaining input.old) (λ xs. TableRead xs (R.remaining input.new) n table.new)) }
 {
     let mut at = 0;
     while at < table.len() {
@@ -93,7 +98,8 @@ fn read_table(input: &mut impl Read, table: &mut [u8]) -> io::Result<usize>
 
 // The end of a line, written at a place; answers the place behind it, or 0 where there is no room.
 fn put_end(line: &mut [u8], at: usize) -> usize
-    ensures { Within result line.new }
+    ensures within { Within result line.new }
+    ensures end { at < length line.old → take result line.new ≡ take at line.old ++ newline ∷ [] }
 {
     if at < line.len() {
         line[at] = b'\n';
@@ -103,20 +109,17 @@ fn put_end(line: &mut [u8], at: usize) -> usize
 }
 
 // A line and its end go out by one call of the system.
-fn print_line(
-    output: &mut impl Write,
-    call: Call,
-    answer: Answer,
-    buffer: &[u8],
-) -> io::Result<()> {
+fn print_line<W: Write>(out: &mut W, call: Call, answer: Answer, buffer: &[u8]) -> io::Result<()>
+    ensures { length buffer.now ≤ 35 → OnOk result (Appends (W.contents out.old) (W.contents out.new) (line_of call answer buffer.now ++ newline ∷ [])) }
+{
     let mut line = [0u8; LINE];
     let n = lines::line(call, answer, buffer, &mut line);
     let end = put_end(&mut line, n);
-    output.write_all(&line[..end])
+    out.write_all(&line[..end])
 }
 
-fn call_and_print(
-    output: &mut impl Write,
+fn call_and_print<W: Write>(
+    out: &mut W,
     call: Call,
     state: State,
     store: &mut [u8],
@@ -124,33 +127,36 @@ fn call_and_print(
     images: &mut [u8],
     format: &[u8],
     buffer: &mut [u8],
-) -> io::Result<State> {
+) -> io::Result<State>
+    ensures { IfOk result (λ next. CallPrinted call buffer.old (step capacity call format.now buffer.old (nucleus state store.old queue.old images.old))
+        (W.contents out.old) (W.contents out.new) (nucleus next store.new queue.new images.new)) }
+{
     let outcome = calls::step(state, CAPACITY, call, store, queue, images, format, buffer);
-    print_line(output, call, outcome.answer, buffer)?;
+    print_line(out, call, outcome.answer, buffer)?;
     Ok(outcome.state)
 }
 
 // The next call, where there is one.
-fn serve_one(
-    input: &mut impl Read,
-    output: &mut impl Write,
-    left: u64,
+fn serve_one<R: Read, W: Write>(
+    input: &mut R,
+    out: &mut W,
     state: State,
     store: &mut [u8],
     queue: &mut [u64],
     images: &mut [u8],
-) -> io::Result<Turn>
-    ensures { IfOk result (λ turn. turn.left ≤ left) }
+) -> io::Result<Option<State>>
+    ensures { IfOk result (λ next. IfSome (R.remaining input.old) (λ xs. OneServed xs (R.remaining input.new) (W.contents out.old) (W.contents out.new)
+        (nucleus state store.old queue.old images.old) next store.new queue.new images.new)) }
 {
     let mut bytes = [0u8; house::CALL];
     let n = read_full(input, &mut bytes)?;
     if n == 0 {
-        return Ok(Turn { left: 0, state });
+        return Ok(None);
     }
     let sent = house::read_call(&bytes[..n]);
     if !sent.good {
-        print_bad(output)?;
-        return Ok(Turn { left: 0, state });
+        print_bad(out)?;
+        return Ok(None);
     }
     let call = sent.call;
     let format = sent.format;
@@ -158,7 +164,7 @@ fn serve_one(
     let mut buffer = sent.buffer;
     let buffer_length = sent.buffer_length;
     let next = call_and_print(
-        output,
+        out,
         call,
         state,
         store,
@@ -167,38 +173,35 @@ fn serve_one(
         &format[..format_length],
         &mut buffer[..buffer_length],
     )?;
-    Ok(Turn { left, state: next })
+    Ok(Some(next))
 }
 
-fn serve(
-    input: &mut impl Read,
-    output: &mut impl Write,
-    state: State,
+// The calls to the end of the input. No list has more calls than the loop, but a loop has to end, and nothing says that the input does.
+fn serve<R: Read, W: Write>(
+    input: &mut R,
+    out: &mut W,
+    mut state: State,
     store: &mut [u8],
     queue: &mut [u64],
     images: &mut [u8],
-) -> io::Result<()> {
-    let mut turn = Turn {
-        left: u64::MAX,
-        state,
-    };
-    while turn.left > 0 {
-        turn = serve_one(
-            input,
-            output,
-            turn.left - 1,
-            turn.state,
-            store,
-            queue,
-            images,
-        )?;
+) -> io::Result<()>
+    ensures { OnOk result (IfSome (R.remaining input.old) (λ xs. length xs < 2 ^ 64 → Appends (W.contents out.old) (W.contents out.new)
+        (lines_of xs (nucleus state store.old queue.old images.old)))) }
+{
+    for _ in 0..u64::MAX {
+        match serve_one(input, out, state, store, queue, images)? {
+            Some(next) => state = next,
+            None => return Ok(()),
+        }
     }
     Ok(())
 }
 
-// Reads a table and calls to the end of the input, and prints what document 01 says. An error is of a read or a write that failed, and then there is
-// no more.
-pub fn run(input: &mut impl Read, output: &mut impl Write) -> io::Result<()> {
+// Reads a table and calls to the end of the input, and prints what document 01 says: for an input whose bytes are known, `output` of them, behind what
+// the writer holds. An error is of a read or a write that failed, and then no more is read or printed.
+pub fn run<R: Read, W: Write>(input: &mut R, out: &mut W) -> io::Result<()>
+    ensures { OnOk result (IfSome (R.remaining input.old) (λ xs. length xs < 2 ^ 64 → Appends (W.contents out.old) (W.contents out.new) (output xs))) }
+{
     let mut table = [0u8; MAX_TABLE];
     let length = read_table(input, &mut table)?;
     let mut store = [0u8; STORE];
@@ -207,8 +210,8 @@ pub fn run(input: &mut impl Read, output: &mut impl Write) -> io::Result<()> {
     let nucleus = setup::set_up(&table[..length], CAPACITY, &mut store, &queue, &images);
     let response = nucleus.response;
     if response_numbers::number(response) != 0 {
-        return print_bad(output);
+        return print_bad(out);
     }
     let state = nucleus.state;
-    serve(input, output, state, &mut store, &mut queue, &mut images)
+    serve(input, out, state, &mut store, &mut queue, &mut images)
 }

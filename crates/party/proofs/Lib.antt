@@ -1,0 +1,11 @@
+pub mod Passing
+pub mod More
+pub mod Whole
+pub mod Calls
+pub mod KnownBytes
+pub mod Items
+pub mod Tables
+pub mod Printing
+pub mod Served
+pub mod Serves
+pub mod Runs
