@@ -69,35 +69,42 @@ as_told s c l e told = e ∙ sym (ap (on s) told)
 
 pub returns-in-Et : goal.returns-in-Et
 returns-in-Et c =
+    let a = c.args in
     as_told (goal.at.returns-in-Et c).Start Et _
-    (ended c.args.call c.args.most c.args.clock c.args.share c.args.d c.args.store.now c.args.queue.now c.args.images.now c.args.format.now c.args.buffer.now _ c.image_length-width.ensures _ c.args.store.now _ _ c.et.ensures.value c.et.ensures.queue_after c.et.ensures.images_after)
+    (ended a.call a.most a.clock a.share a.d a.store.now a.queue.now a.images.now a.format.now a.buffer.now _ c.image_length-width.ensures _ a.store.now _ _ c.et.ensures.value c.et.ensures.queue_after c.et.ensures.images_after)
     c.in-Et.is
 
 pub returns-in-Bt : goal.returns-in-Bt
 returns-in-Bt c =
+    let a = c.args in
     as_told (goal.at.returns-in-Bt c).Start Bt _
-    (backed_out c.args.call c.args.most c.args.clock c.args.share c.args.d c.args.store.now c.args.queue.now c.args.images.now c.args.format.now c.args.buffer.now _ c.image_length-width-in-Bt.ensures _ _ _ _ c.bt.ensures.value c.bt.ensures.store_after c.bt.ensures.queue_after c.bt.ensures.images_after)
+    (backed_out a.call a.most a.clock a.share a.d a.store.now a.queue.now a.images.now a.format.now a.buffer.now _ c.image_length-width-in-Bt.ensures _ _ _ _ c.bt.ensures.value c.bt.ensures.store_after c.bt.ensures.queue_after c.bt.ensures.images_after)
     c.in-Bt.is
 
 pub returns-in-Re : goal.returns-in-Re
 unfolding performed
-returns-in-Re c =     as_told (goal.at.returns-in-Re c).Start Re _ (λ i. left (c.re.ensures.value i) c.args.store.now c.args.queue.now c.args.images.now (c.re.ensures.buffer_after i)) c.in-Re.is
+returns-in-Re c =
+    as_told (goal.at.returns-in-Re c).Start Re _ (λ i. left (c.re.ensures.value i) c.args.store.now c.args.queue.now c.args.images.now (c.re.ensures.buffer_after i)) c.in-Re.is
 
 pub returns-in-Op : goal.returns-in-Op
 unfolding performed
-returns-in-Op c =     as_told (goal.at.returns-in-Op c).Start Op _ (λ i. left (c.op.ensures i) c.args.store.now c.args.queue.now c.args.images.now c.args.buffer.now) c.in-Op.is
+returns-in-Op c =
+    as_told (goal.at.returns-in-Op c).Start Op _ (λ i. left (c.op.ensures i) c.args.store.now c.args.queue.now c.args.images.now c.args.buffer.now) c.in-Op.is
 
 pub returns-in-Cl : goal.returns-in-Cl
 unfolding performed
-returns-in-Cl c =     as_told (goal.at.returns-in-Cl c).Start Cl _ (λ i. left (c.cl.ensures i) c.args.store.now c.args.queue.now c.args.images.now c.args.buffer.now) c.in-Cl.is
+returns-in-Cl c =
+    as_told (goal.at.returns-in-Cl c).Start Cl _ (λ i. left (c.cl.ensures i) c.args.store.now c.args.queue.now c.args.images.now c.args.buffer.now) c.in-Cl.is
 
 pub returns-in-Pe : goal.returns-in-Pe
 unfolding performed
-returns-in-Pe c =     as_told (goal.at.returns-in-Pe c).Start Pe _ (λ i. left (c.pe.ensures i) c.args.store.now c.args.queue.now c.args.images.now c.args.buffer.now) c.in-Pe.is
+returns-in-Pe c =
+    as_told (goal.at.returns-in-Pe c).Start Pe _ (λ i. left (c.pe.ensures i) c.args.store.now c.args.queue.now c.args.images.now c.args.buffer.now) c.in-Pe.is
 
 pub returns-in-Ri : goal.returns-in-Ri
 unfolding performed
-returns-in-Ri c = as_told (goal.at.returns-in-Ri c).Start Ri _ c.ri.ensures c.in-Ri.is
+returns-in-Ri c =
+    as_told (goal.at.returns-in-Ri c).Start Ri _ c.ri.ensures c.in-Ri.is
 
 pub returns-in-Hi : goal.returns-in-Hi
 unfolding performed

@@ -39,10 +39,12 @@ module _ (call : Call) (most clock : ℕ) (x : Share) (d : Definition) (store qu
 
 pub returns-then-call-eq0 : goal.returns-then-call-eq0
 returns-then-call-eq0 c =
-    all_released c.args.call c.args.most c.args.clock c.args.share c.args.d c.args.store.now c.args.queue.now c.args.images.now c.args.format.now c.args.buffer.now
+    let a = c.args in
+    all_released a.call a.most a.clock a.share a.d a.store.now a.queue.now a.images.now a.format.now a.buffer.now
     (eq-eqb _ _ c.if-call-eq0.true) _ c.image_length-width.ensures _ _ _ c.ri.ensures.value c.ri.ensures.queue_after c.ri.ensures.images_after
 
 pub returns : goal.returns
 returns c =
-    one_released c.args.call c.args.most c.args.clock c.args.share c.args.d c.args.store.now c.args.queue.now c.args.images.now c.args.format.now c.args.buffer.now
+    let a = c.args in
+    one_released a.call a.most a.clock a.share a.d a.store.now a.queue.now a.images.now a.format.now a.buffer.now
     (ne_eqb _ _ c.if-call-eq0.false) _ c.requires.found_value _ c.in_file.ensures

@@ -73,28 +73,32 @@ pub returns-in-Refused-understood : goal.returns-in-Refused-understood
 returns-in-Refused-understood c =
     let a = c.args in
     let n = nucleus a.state a.store.now a.queue.now a.images.now in
-    let told = c.understood-in-Refused-understood-1.given in
+    let cause = c.in-Refused-understood.cause in
     let fit = verdict_passed (first_cause (rows_usable a.capacity n)) (sym c.usable-usable.ensures ∙ c.in_default.is) in
-    let e = refused_cause direct_commands a.call told.0.0 (sym c.understand-understood.ensures ∙ told.1) in
-    given_back _ _ _ _ _ told.0.0 _ _ c.refused-in-Refused-understood.ensures (sym (step_misunderstood a.capacity a.call a.format.now a.buffer.now n fit told.0.0 e))
+    let e = refused_cause direct_commands a.call cause (sym c.understand-understood.ensures ∙ c.in-Refused-understood.is) in
+    given_back _ _ _ _ _ cause _ _ c.refused-in-Refused-understood.ensures (sym (step_misunderstood a.capacity a.call a.format.now a.buffer.now n fit cause e))
 
 pub returns-in-Refused-verdict : goal.returns-in-Refused-verdict
 returns-in-Refused-verdict c =
     let a = c.args in
-    let told = c.verdict-1.given in
+    let k = (goal.at.returns-in-Refused-verdict c).After-admit-admitted in
+    let cause = c.in-Refused-verdict.cause in
     let e = c.admit-admitted.ensures a.state.et_data a.state.last_assigned in
-    given_back _ _ _ _ _ told.0.0 _ _ c.refused-in-Refused-verdict.ensures
-    (refused_through a.capacity a.call a.format.now a.buffer.now a.state a.store.now a.queue.now a.images.now _ _ _ _ _ (asked (goal.at.returns-in-Refused-verdict c).After-admit-admitted) (usable (goal.at.returns-in-Refused-verdict c).After-admit-admitted) (understood (goal.at.returns-in-Refused-verdict c).After-admit-admitted) c.admit-admitted.result.verdict told.0.0 e told.1)
+    given_back _ _ _ _ _ cause _ _ c.refused-in-Refused-verdict.ensures
+    (refused_through a.capacity a.call a.format.now a.buffer.now a.state a.store.now a.queue.now a.images.now _ _ _ _ _ (asked k) (usable k) (understood k) c.admit-admitted.result.verdict cause e c.in-Refused-verdict.is)
 
 pub serve_lined-requires : goal.serve_lined-requires
-serve_lined-requires c =     record { le_user = user_in (goal.at.serve_lined-requires c).After-admit-admitted; definition_value = usable_valid c.args.capacity (begun (goal.at.serve_lined-requires c).After-admit-admitted) (usable (goal.at.serve_lined-requires c).After-admit-admitted); definition_in_bounds = (store_in (goal.at.serve_lined-requires c).After-admit-admitted, queue_in (goal.at.serve_lined-requires c).After-admit-admitted) }
+serve_lined-requires c =
+    let k = (goal.at.serve_lined-requires c).After-admit-admitted in
+    record { le_user = user_in k; definition_value = usable_valid c.args.capacity (begun k) (usable k); definition_in_bounds = (store_in k, queue_in k) }
 
 pub shape_of-store : goal.shape_of-store
-shape_of-store c =     c.serve_lined.auto.store ∙ c.admit-admitted.auto.store
+shape_of-store c = c.serve_lined.auto.store ∙ c.admit-admitted.auto.store
 
 pub returns : goal.returns
 returns c =
     let a = c.args in
+    let k = (goal.at.returns c).After-admit-admitted in
     let e = c.admit-admitted.ensures a.state.et_data a.state.last_assigned in
     c.serve_lined.ensures
-    ∙ performed_through a.capacity a.call a.format.now a.buffer.now a.state a.store.now a.queue.now a.images.now _ _ _ _ _ (asked (goal.at.returns c).After-admit-admitted) (usable (goal.at.returns c).After-admit-admitted) (understood (goal.at.returns c).After-admit-admitted) c.admit-admitted.result.verdict e c.in_default-verdict.is
+    ∙ performed_through a.capacity a.call a.format.now a.buffer.now a.state a.store.now a.queue.now a.images.now _ _ _ _ _ (asked k) (usable k) (understood k) c.admit-admitted.result.verdict e c.in_default-verdict.is
