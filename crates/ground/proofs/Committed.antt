@@ -28,8 +28,9 @@ use Rattle.committed.specs.Committed.{version_of, committed_version, image_insid
 use Rattle.committed.specs.declared.Version.{Version}
 use Rattle.transactions.specs.Slots.{Slot}
 use Rattle.transactions.specs.Machine.{Entry as MachineEntry, at_key}
-use Rattle.transactions.proofs.View.{at, backs, back_at}
-use Rattle.transactions.proofs.Effect.{view}
+use Rattle.transactions.specs.View.{at, backs}
+use Rattle.transactions.proofs.View.{back_at}
+use Rattle.transactions.specs.Effect.{view}
 use Rattle.ground.specs.Keys.{isn_bound, key, file_of}
 use Rattle.ground.specs.Store.{get}
 use Rattle.ground.proofs.StoreLaws.{get_key}

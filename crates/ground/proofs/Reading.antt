@@ -22,7 +22,7 @@ use Rattle.queue.specs.declared.Lookup.TheVariants.{Held, Free}
 use Rattle.images.specs.Images.{hold_of, with_images}
 use Rattle.images.specs.Laws.{length_with_images}
 use Rattle.transactions.specs.Machine.{Entry as MachineEntry, of_user, at_key, held_by_other}
-use Rattle.transactions.proofs.View.{Single, nobody, holder as one, at}
+use Rattle.transactions.specs.View.{Single, nobody, holder as one, at}
 use Rattle.ground.specs.Keys.{isn_bound, key}
 use Rattle.ground.proofs.Keys.{key_test}
 use Rattle.ground.specs.Queue.{key_of, held, holds_of, queue_of}

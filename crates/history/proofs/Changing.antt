@@ -7,7 +7,8 @@ use borrow.Author.Tests.{lt-ltb}
 use Rattle.lists.specs.Folds.{all_append}
 use Rattle.definition.specs.declared.Definition.{Definition}
 use Rattle.transactions.specs.Machine as machine
-use Rattle.transactions.proofs.Theorems.{Invariant, kept_act}
+use Rattle.transactions.specs.Theorems.{Invariant}
+use Rattle.transactions.proofs.Theorems.{kept_act}
 use Rattle.ground.specs.Keys.{isn_bound, key}
 use Rattle.ground.specs.Store.{put}
 use Rattle.ground.specs.Ground.{ground}

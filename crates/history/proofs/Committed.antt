@@ -21,8 +21,10 @@ use Rattle.entries.specs.declared.Entry.{Entry}
 use Rattle.committed.specs.Committed.{committed_version, version_there, version_bytes, bytes_at}
 use Rattle.committed.specs.declared.Version.{Version}
 use Rattle.transactions.specs.Machine.{Ground}
-use Rattle.transactions.proofs.View.{plus, stay, back_stay}
-use Rattle.transactions.proofs.Effect.{told, told_back_out}
+use Rattle.transactions.specs.View.{plus, stay}
+use Rattle.transactions.proofs.View.{back_stay}
+use Rattle.transactions.specs.Effect.{told}
+use Rattle.transactions.proofs.Effect.{told_back_out}
 use Rattle.ground.specs.Keys.{isn_bound, key}
 use Rattle.ground.specs.Ground.{ground}
 use Rattle.ground.specs.Store.{get}

@@ -10,7 +10,8 @@ use Rattle.queue.specs.Laws.{held_found}
 use Rattle.search.specs.declared.Occupied.{Occupied}
 use Rattle.search.specs.declared.Occupied.TheVariants.{At, Nowhere}
 use Rattle.transactions.specs.Machine.{hold, with_hold, act, log}
-use Rattle.transactions.proofs.Theorems.{Invariant, kept_act}
+use Rattle.transactions.specs.Theorems.{Invariant}
+use Rattle.transactions.proofs.Theorems.{kept_act}
 use Rattle.ground.specs.Keys.{isn_bound, key, known}
 use Rattle.nucleus.specs.Users.{is_active, started, with_transaction}
 use Rattle.nucleus.specs.Nucleus.{Nucleus, Request, max_users, user_of, entries_of}

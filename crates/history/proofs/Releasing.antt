@@ -5,7 +5,8 @@ use Rattle.queue.specs.Queue.{holder}
 use Rattle.removal.specs.declared.Removal.{Removal}
 use Rattle.removal.specs.declared.Removal.TheVariants.{One, Unchanged}
 use Rattle.transactions.specs.Machine.{Operation, release, release_all, allowed, act, log}
-use Rattle.transactions.proofs.Theorems.{Invariant, kept_act}
+use Rattle.transactions.specs.Theorems.{Invariant}
+use Rattle.transactions.proofs.Theorems.{kept_act}
 use Rattle.ground.specs.Keys.{isn_bound, key}
 use Rattle.nucleus.specs.Nucleus.{Nucleus, entries_of}
 use Rattle.nucleus.specs.Clock.{removed}

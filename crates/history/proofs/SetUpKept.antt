@@ -19,7 +19,8 @@ use Rattle.lists.specs.Numbers.{numbers}
 use Rattle.entries.specs.Entries.{entries}
 use Rattle.repeats.specs.Repeats.{repeated}
 use Rattle.transactions.specs.Machine.{begin}
-use Rattle.transactions.proofs.Theorems.{Invariant, kept_begin}
+use Rattle.transactions.specs.Theorems.{Invariant}
+use Rattle.transactions.proofs.Theorems.{kept_begin}
 use Rattle.ground.specs.Store.{fresh_from, fresh_store}
 use Rattle.ground.proofs.Fresh.{fresh_room, fresh_store_is, fresh_store_length, fresh_store_past}
 use Rattle.ground.specs.Ground.{ground}

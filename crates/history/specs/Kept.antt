@@ -11,7 +11,7 @@ use Rattle.definition.specs.declared.Definition.{Definition}
 use Rattle.validity.specs.Validity as validity
 use Rattle.entries.specs.declared.Entry.{Entry}
 use Rattle.transactions.specs.Machine.{Ground, Machine}
-use Rattle.transactions.proofs.Theorems.{Invariant}
+use Rattle.transactions.specs.Theorems.{Invariant}
 use Rattle.ground.specs.Keys.{isn_bound}
 use Rattle.ground.specs.Ground.{ground}
 use Rattle.ground.specs.Queue.{queue_of, Made}

@@ -7,7 +7,7 @@ use Rattle.lists.specs.Folds.{all}
 use Rattle.lists.specs.Sift.{keep, sift}
 use Rattle.transactions.specs.Slots.{Slot}
 use Rattle.transactions.specs.Machine.{Entry, of_user, at_key, imaged_entry, image_kept}
-use Rattle.transactions.proofs.View.{Single, holder, at}
+use Rattle.transactions.specs.View.{Single, holder, at}
 
 single_tail : {e : Entry} {l : List Entry} → Single (e ∷ l) → l ≡ []
 single_tail (holder e) = refl

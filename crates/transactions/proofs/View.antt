@@ -10,13 +10,9 @@ use Rattle.lists.specs.Folds.{any}
 use Rattle.lists.specs.Sift.{keep, sift, sift_comm, sift_map, sift_append, sift_none, any_sift, all_sift}
 use Rattle.transactions.specs.Slots.{Slot}
 use Rattle.transactions.specs.Machine.{Entry, new_entry, of_user, at_key, held_by_other, with_hold, imaged_entry, image_kept, without}
+use Rattle.transactions.specs.View.{Single, at, hit, back, backs, plus, Held, stay, nobody, holder}
 
 -- ---- one key of the queue
-
--- no key twice: at a key stands one entry or none
-pub data Single : List Entry → Type 0 where
-  nobody : Single []
-  holder : (e : Entry) → Single (e ∷ [])
 
 pub single_keep : (b : Bool) (e : Entry) → Single (keep b e [])
 single_keep true e = holder e
@@ -30,25 +26,8 @@ pub single_map : (f : Entry → Entry) {q : List Entry} → Single q → Single 
 single_map f nobody = nobody
 single_map f (holder e) = holder (f e)
 
--- the entries at a key
-abbrev pub at : ℕ → List Entry → List Entry
-at k q = sift (at_key k) q
-
 pub at_sift : (k : ℕ) (p : Entry → Bool) (q : List Entry) → Single (at k q) → Single (at k (sift p q))
 at_sift k p q h = rw (sift_comm (at_key k) p q) (single_sift p h)
-
--- the slot `x` at key `k`, with what the queue puts back for the users that `P` picks
-abbrev pub hit : (ℕ → Bool) → Entry → Bool
-hit P e = e.changed && P e.user
-
-abbrev pub back : ℕ → (ℕ → Bool) → Slot → List Entry → Slot
-back k P x [] = x
-back k P x (e ∷ q) = back k P (cond (at_key k e && hit P e) e.image x) q
-
--- the same over the entries at one key
-abbrev pub backs : (ℕ → Bool) → Slot → List Entry → Slot
-backs P x [] = x
-backs P x (e ∷ q) = backs P (cond (hit P e) e.image x) q
 
 pub back_at : (k : ℕ) (P : ℕ → Bool) (x : Slot) (q : List Entry) → back k P x q ≡ backs P x (at k q)
 back_at k P x [] = refl
@@ -96,12 +75,6 @@ back_image_kept k P j y h x (e ∷ q) = ap (λ z. back k P z (map (image_kept j 
 
 -- ---- users: one more that is backed out, one that is not
 
-abbrev pub plus : (ℕ → Bool) → ℕ → ℕ → Bool
-plus P u v = P v || eqb v u
-
-abbrev pub less : (ℕ → Bool) → ℕ → ℕ → Bool
-less P u v = P v && not (eqb v u)
-
 -- a user's entries put back and gone, and then those that `P` picks: as all of these at once
 twice : (t c p : Bool) (i x : Slot) → cond (not t && (c && p)) i (cond (c && t) i x) ≡ cond (c && (p || t)) i x
 twice true true true i x = refl
@@ -129,13 +102,6 @@ pub back_twice : (k : ℕ) (P : ℕ → Bool) (u : ℕ) (x : Slot) (q : List Ent
 back_twice k P u x q h = simp (back_at, sift_comm (at_key k)) (backs_twice P u x h)
 
 -- ---- a change at a key
-
--- the holder, once the key is held
-pub record Held (u k : ℕ) (q : List Entry) : Type 0 where
-  pub who : Entry
-  pub alone : at k (with_hold u k q) ≡ who ∷ []
-  pub his : who.user ≡ u
-  pub here : at_key k who ≡ true
 
 pub held : (u k : ℕ) (q : List Entry) → Single (at k q) → held_by_other u k q ≡ false → Held u k q
 held u k q h f = go (any (at_key k) q) refl
@@ -213,10 +179,6 @@ single_hold j u k q h f = go (eqb k j) refl
         let g : Held u k q = held u k q h' f in
         rw (← i, g.alone) (holder g.who)
     go false e = rw (at_hold j u k q e) h
-
--- nobody is backed out
-abbrev pub stay : ℕ → Bool
-stay v = false
 
 pub back_stay : (k : ℕ) (x : Slot) (q : List Entry) → back k stay x q ≡ x
 back_stay k x [] = refl
