@@ -1,2 +1,2 @@
-// Holds, changes, ends and back-outs over an abstract store, and the argument of requirement 3. There is no code here: see specs/.
+// Holds, changes, ends and back-outs over an abstract store, in specs/, and the argument of requirement 3, in proofs/. There is no code here.
 #![tactic(auto)]
