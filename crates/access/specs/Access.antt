@@ -1,6 +1,6 @@
 -- What comes before a command, as code answers it.
-use Rattle.std.specs.Prelude.{not, ◌&&◌, [], ◌∷◌}
-use Rattle.std.proofs.Math.Option.{Option}
+use Rattle.std.specs.Prelude.{not, ◌&&◌, [], ◌∷◌, Option, Ok, Err}
+use Rattle.shares.specs.Shares.{Verdict}
 use Rattle.nucleus.specs.Commands.{one_of, serving_ready, setting_ready, serving_access_only}
 use Rattle.nucleus.specs.Users.{is_active, is_ready}
 use Rattle.nucleus.specs.Nucleus.{Nucleus}
@@ -10,8 +10,6 @@ use Rattle.nucleus.specs.declared.Command.{Command}
 use Rattle.nucleus.specs.declared.Response.{Response}
 use Rattle.nucleus.specs.declared.Response.TheVariants.{TransactionReady, AccessOnly, NoTransaction}
 use Rattle.nucleus.specs.declared.User.{User}
-use Rattle.shares.specs.declared.Verdict.{Verdict}
-use Rattle.shares.specs.declared.Verdict.TheVariants as verdicts
 
 -- 211, 29 and 212, by the user alone
 unfoldable pub session_cause : Command → User → Option Response
@@ -24,5 +22,5 @@ session_cause c u =
 
 -- let in, or turned away
 abbrev pub admission_of : Verdict → Command → Nucleus → Admission
-admission_of verdicts.Passed c n = let_in c n
-admission_of (verdicts.Refused cause) c n = turned_away cause n
+admission_of (Ok tt) c n = let_in c n
+admission_of (Err cause) c n = turned_away cause n

@@ -1,9 +1,8 @@
 -- What comes of a caller on a nucleus from its parts.
 -- Assumes nothing.
-use Rattle.std.specs.Prelude.{ℕ, ◌-◌, ◌≡◌, true, false, ◌&&◌, List, ltb, length, get_or, set}
+use Rattle.std.specs.Prelude.{ℕ, ◌-◌, ◌≡◌, true, false, ◌&&◌, List, ltb, length, get_or, set, Option, Some, None}
 use Rattle.std.proofs.Math.Path.{refl}
 use Rattle.std.proofs.Common.{ap, ◌∙◌, get_or-set_same, ltb-true, ltb-false}
-use Rattle.std.proofs.Math.Option.{Option, none, some}
 use Rattle.std.proofs.Math.ListN.{get_or-eq_default}
 use Rattle.std.proofs.Math.Seq.{set_out}
 use Rattle.definition.specs.declared.Definition.{Definition}
@@ -22,8 +21,7 @@ use Rattle.nucleus.specs.declared.Response.TheVariants.{BackedOut}
 use Rattle.nucleus.specs.declared.User.{User}
 use Rattle.handing.specs.Parts.{parts, nucleus_of}
 use Rattle.handing.specs.declared.Standing.{Standing}
-use Rattle.shares.specs.Shares.{verdict}
-use Rattle.shares.specs.declared.Verdict.{Verdict}
+use Rattle.shares.specs.Shares.{verdict, Verdict}
 use Rattle.access.specs.Access.{session_cause, admission_of}
 
 -- ---- after the clock, whatever else the state keeps
@@ -86,5 +84,5 @@ module _ (c : Command) (call : Call) (d : Definition) (clock : ℕ) (s : Standin
           after = with_users (set s.users place (opened caller))
 
           go : (x : Option Response) → unless_refused x after (let_in c after) ≡ admission_of (verdict x) c after
-          go (some cause) = refl
-          go none = refl
+          go (Some cause) = refl
+          go None = refl

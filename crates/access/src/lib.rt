@@ -13,7 +13,6 @@ ghost use Rattle.access.specs.Access.{session_cause, admission_of};
 use definition::Definition;
 use handing::Standing;
 use nucleus::{Call, Command, Response, User};
-use shares::Verdict;
 
 // OP and CL, which open or close a session.
 fn on_session(command: Command) -> bool
@@ -96,25 +95,25 @@ fn transaction_missing(command: Command, user: User) -> bool
 }
 
 // 211, 29 and 212, of a user whose session is open.
-fn judge(command: Command, user: User) -> Verdict
+fn judge(command: Command, user: User) -> Result<(), Response>
     ensures { result ≡ verdict (session_cause command user) }
 {
     if ready_refused(command, user) {
-        return Verdict::Refused(Response::TransactionReady);
+        return Err(Response::TransactionReady);
     }
     if access_refused(command, user) {
-        return Verdict::Refused(Response::AccessOnly);
+        return Err(Response::AccessOnly);
     }
     if transaction_missing(command, user) {
-        return Verdict::Refused(Response::NoTransaction);
+        return Err(Response::NoTransaction);
     }
-    Verdict::Passed
+    Ok(())
 }
 
 // Whether a caller is let in, and what is left then.
 #[derive(Clone, Copy)]
 pub struct Entered {
-    pub verdict: Verdict,
+    pub verdict: Result<(), Response>,
     pub standing: Standing,
 }
 
@@ -140,14 +139,14 @@ pub fn admit_user(
         let told = handing::with_user(users, call.user, cleared);
         standing.users = told;
         return Entered {
-            verdict: Verdict::Refused(Response::BackedOut),
+            verdict: Err(Response::BackedOut),
             standing,
         };
     }
     if session_in_transaction(command, user) {
         let out = handing::force_out(d, clock, standing, call.user, store, queue, images);
         return Entered {
-            verdict: Verdict::Refused(Response::BackedOut),
+            verdict: Err(Response::BackedOut),
             standing: out,
         };
     }

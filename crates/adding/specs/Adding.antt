@@ -1,6 +1,5 @@
 -- The rows of N1 and N2 in groups: those that both begin and end with.
-use Rattle.std.specs.Prelude.{ℕ, false, List, [], ◌∷◌, ◌++◌}
-use Rattle.std.proofs.Math.Option.{Option}
+use Rattle.std.specs.Prelude.{ℕ, false, List, [], ◌∷◌, ◌++◌, Option}
 use Rattle.definition.specs.declared.File.{File}
 use Rattle.nucleus.specs.Rows.{Row, row, first_cause}
 use Rattle.nucleus.specs.declared.Call.{Call}

@@ -13,8 +13,7 @@ ghost use Rattle.adding.specs.Adding.{last_cause};
 
 use definition::{File, MAX_RECORD_LENGTH};
 use nucleus::{Call, Response};
-use search::Occupied;
-use shares::{Done, Share, Verdict};
+use shares::{Done, Share};
 
 // Adds a record at an ISN, with the caller's entry there and the image of what was there, after the rows 47, 70 and 198. `assigned` is the ISN
 // that N1 gave last from then on.
@@ -40,7 +39,7 @@ fn add_at(
     ensures images_after { images.new ≡ changed_images (last_cause f part.old call share queue.old images.old width most format.now buffer.now isn) f part.old isn call share queue.old clock width images.old }
 {
     let room = hold_rows::room(call, share, queue, most, isn);
-    if let Verdict::Refused(cause) = room {
+    if let Err(cause) = room {
         return shares::refused(cause, share);
     }
     let mut scratch = [0u8; MAX_RECORD_LENGTH];
@@ -77,11 +76,11 @@ pub fn n1(
     ensures images_after { images.new ≡ changed_images (n1_cause f part.old call share queue.old images.old width most format.now buffer.now (free_isn f part.old call share queue.old)) f part.old (isn_in (free_isn f part.old call share queue.old)) call share queue.old clock width images.old }
 {
     let brought = formats::storable(f, format, buffer);
-    if let Verdict::Refused(response) = brought {
+    if let Err(response) = brought {
         return shares::refused(response, share);
     }
     let free = assignment::free_isn(call, share, queue, f, part);
-    let Occupied::At(isn) = free else {
+    let Some(isn) = free else {
         return shares::refused(Response::FileFull, share);
     };
     add_at(
@@ -109,7 +108,7 @@ pub fn n2(
     ensures images_after { images.new ≡ changed_images (n2_cause f part.old call share queue.old images.old width most format.now buffer.now) f part.old call.isn call share queue.old clock width images.old }
 {
     let brought = formats::storable(f, format, buffer);
-    if let Verdict::Refused(cause) = brought {
+    if let Err(cause) = brought {
         return shares::refused(cause, share);
     }
     let found = queue::holder(queue, share.count, call.file, call.isn);

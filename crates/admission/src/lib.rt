@@ -12,13 +12,12 @@ ghost use Rattle.access.specs.Access.{admission_of};
 
 use definition::Definition;
 use handing::Standing;
-use nucleus::{Call, Command};
-use shares::Verdict;
+use nucleus::{Call, Command, Response};
 
 // Whether the call is let in, and what the clock, a back-out and the session that opened left.
 #[derive(Clone, Copy)]
 pub struct Admitted {
-    pub verdict: Verdict,
+    pub verdict: Result<(), Response>,
     pub clock: u32,
     pub standing: Standing,
 }

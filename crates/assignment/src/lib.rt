@@ -12,8 +12,6 @@ ghost use Rattle.assignment.specs.Assignment.{recorded_at, free_at};
 
 use definition::File;
 use nucleus::Call;
-use queue::Lookup;
-use search::Occupied;
 use shares::Share;
 
 // Whether the slot from `at` to `next` has a record; one that does not end within the `room` has none.
@@ -34,8 +32,8 @@ fn is_held(queue: &[u64], count: usize, file: u8, isn: u16) -> bool
 {
     let found = queue::holder(queue, count, file, isn);
     match found {
-        Lookup::Held(_, _) => true,
-        Lookup::Free => false,
+        Some((_, _)) => true,
+        None => false,
     }
 }
 
@@ -71,7 +69,7 @@ fn first_free(
     file: u8,
     queue: &[u64],
     count: usize,
-) -> Occupied
+) -> Option<u16>
     requires room_in_bounds { room ≤ length part.now }
     requires le_size { 1 ≤ size }
     requires size_bound { size ≤ 4081 }
@@ -85,17 +83,17 @@ fn first_free(
     while isn < end {
         let next = at + size;
         if is_free(part, room, at, next, isn, file, queue, count) {
-            return Occupied::At(isn as u16);
+            return Some(isn as u16);
         }
         at = next;
         isn += 1;
     }
-    Occupied::Nowhere
+    None
 }
 
 // N1's ISN: the first free one after the mark, which is the ISN that it last gave, up to the highest, and then from 1 up to the mark's own.
 // Going round takes no division and no remainder: each search compares with its end, and a slot is there if it ends within the room.
-pub fn free_isn(call: Call, share: Share, queue: &[u64], f: File, part: &[u8]) -> Occupied
+pub fn free_isn(call: Call, share: Share, queue: &[u64], f: File, part: &[u8]) -> Option<u16>
     ensures { result ≡ free_isn f part.now call share queue.now }
 {
     let size = records::slot_length(f);
@@ -112,8 +110,8 @@ pub fn free_isn(call: Call, share: Share, queue: &[u64], f: File, part: &[u8]) -
         queue,
         share.count,
     );
-    if let Occupied::At(isn) = later {
-        return Occupied::At(isn);
+    if let Some(isn) = later {
+        return Some(isn);
     }
     first_free(part, room, size, 1, after, call.file, queue, share.count)
 }

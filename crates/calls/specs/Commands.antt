@@ -1,10 +1,8 @@
 -- Each command on the parts that code has in hand, from 17 on: commands about a file by `file_commands`, and the others.
-use Rattle.std.specs.Prelude.{ℕ, List, eqb}
+use Rattle.std.specs.Prelude.{ℕ, List, eqb, Option, Some, None}
 use Rattle.lists.specs.Tests.{cond}
 use Rattle.definition.specs.Table.{file_at}
 use Rattle.definition.specs.declared.Definition.{Definition}
-use Rattle.records.specs.declared.Found.{Found}
-use Rattle.records.specs.declared.Found.TheVariants.{At, Nowhere}
 use Rattle.layout.specs.Layout.{image_length, place}
 use Rattle.store.specs.Store.{file_part, with_part}
 use Rattle.hold.specs.Hold.{restore}
@@ -34,9 +32,9 @@ module _ (call : Call) (most clock : ℕ) (x : Share) (d : Definition) (store qu
   with_store_of i l = left l.done (with_part d i store l.store) l.queue l.images l.buffer
 
   -- 17 and 113, and then the command on its file
-  unfoldable pub in_file : Found → Command → Left
-  in_file Nowhere c = refusing FileUnknown
-  in_file (At i) c =
+  unfoldable pub in_file : Option ℕ → Command → Left
+  in_file None c = refusing FileUnknown
+  in_file (Some i) c =
       cond (isn_refused c call (file_at d i).max_isn) (refusing IsnInvalid)
       (with_store_of i (on_file call most width clock x (file_at d i) (file_part d i store) queue images format buffer c))
 

@@ -1,6 +1,6 @@
 -- What a command gives back over its parts is what `perform` does.
 -- Assumes nothing.
-use Rattle.std.specs.Prelude.{ℕ, ◌≤◌, ◌≡◌, Bool, true, not, ◌&&◌, List, [], ◌∷◌, length}
+use Rattle.std.specs.Prelude.{ℕ, ◌≤◌, ◌≡◌, Bool, true, not, ◌&&◌, List, [], ◌∷◌, length, Option, Some, None}
 use Rattle.std.proofs.Math.Path.{refl}
 use Rattle.std.proofs.Common.{◌∙◌}
 use Rattle.std.proofs.Math.Bool.{false}
@@ -10,8 +10,6 @@ use Rattle.definition.specs.Table.{file_at}
 use Rattle.definition.specs.declared.Definition.{Definition}
 use Rattle.definition.specs.declared.File.{File}
 use Rattle.records.specs.Records.{record_length}
-use Rattle.records.specs.declared.Found.{Found}
-use Rattle.records.specs.declared.Found.TheVariants.{At, Nowhere}
 use Rattle.layout.specs.Layout.{place}
 use Rattle.store.specs.Store.{file_part, put_record, empty}
 use Rattle.store.specs.Files.{part_own}
@@ -71,7 +69,7 @@ module _ (capacity : ℕ) (call : Call) (format buffer : List ℕ) (n : Nucleus)
   abbrev Performed : Command → Left → Type 0
   Performed c l = perform (request capacity c call format buffer) n ≡ left_on l
 
-  module _ (long : capacity ≤ length n.queue) (i : ℕ) (there : place d call.file ≡ At i) (small : record_length (file_at d i) ≤ max_scratch) where
+  module _ (long : capacity ≤ length n.queue) (i : ℕ) (there : place d call.file ≡ Some i) (small : record_length (file_at d i) ≤ max_scratch) where
     abbrev f : File
     f = file_at d i
 
@@ -114,9 +112,9 @@ module _ (capacity : ℕ) (call : Call) (format buffer : List ℕ) (n : Nucleus)
 
   -- every file's record has room where a new one is made
   abbrev Small : Type 0
-  Small = (i : ℕ) → place d call.file ≡ At i → record_length (file_at d i) ≤ max_scratch
+  Small = (i : ℕ) → place d call.file ≡ Some i → record_length (file_at d i) ≤ max_scratch
 
-  abbrev found_on : Found → Command → Left
+  abbrev found_on : Option ℕ → Command → Left
   found_on at c = in_file call capacity n.state.clock x d n.store n.queue n.images format buffer at c
 
   in_file_performed : capacity ≤ length n.queue → Small → (c : Command) → one_of commands.on_file c ≡ true → (one_of (Ri ∷ []) c && eqb call.isn 0) ≡ false
@@ -124,11 +122,11 @@ module _ (capacity : ℕ) (call : Call) (format buffer : List ℕ) (n : Nucleus)
   unfolding in_file
   in_file_performed long small c known one = go (place d call.file) refl
     where
-      go : (at : Found) → place d call.file ≡ at → Performed c (found_on at c)
-      go Nowhere e = perform_unknown capacity call format buffer n c one known e ∙ refusal_is call buffer n FileUnknown
-      go (At i) e = judged (outcome (isn_refused c call (file_at d i).max_isn))
+      go : (at : Option ℕ) → place d call.file ≡ at → Performed c (found_on at c)
+      go None e = perform_unknown capacity call format buffer n c one known e ∙ refusal_is call buffer n FileUnknown
+      go (Some i) e = judged (outcome (isn_refused c call (file_at d i).max_isn))
         where
-          judged : Outcome (isn_refused c call (file_at d i).max_isn) → Performed c (found_on (At i) c)
+          judged : Outcome (isn_refused c call (file_at d i).max_isn) → Performed c (found_on (Some i) c)
           judged (fails valid) = rw valid (on_file_performed long i e (small i e) c known one valid)
           judged (holds refused) =
               let given = not_seeking (one_of reading_values c && eqb call.option option_I) _ refused in

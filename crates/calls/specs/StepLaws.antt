@@ -1,15 +1,13 @@
 -- The ways that a call can go, from its first row to its command.
 -- Assumes nothing.
-use Rattle.std.specs.Prelude.{ℕ, ◌-◌, ◌≤◌, ◌≡◌, Bool, true, List, length, get_or, set}
+use Rattle.std.specs.Prelude.{ℕ, ◌-◌, ◌≤◌, ◌≡◌, Bool, true, List, length, get_or, set, Some, None, Ok, Err}
 use Rattle.std.proofs.Math.Path.{sym, ap}
 use Rattle.std.proofs.Common.{◌∙◌}
-use Rattle.std.proofs.Math.Option.{none, some}
 use Rattle.std.proofs.lemmas.List.Edits.{sets}
 use Rattle.definition.specs.Table.{file_at}
 use Rattle.definition.specs.Shape.{DefinitionShape}
 use Rattle.definition.specs.declared.Definition.{Definition}
 use Rattle.records.specs.Records.{record_length}
-use Rattle.records.specs.declared.Found.TheVariants.{At}
 use Rattle.layout.specs.Layout.{place}
 use Rattle.layout.specs.Laws.{place_found}
 use Rattle.validity.specs.Validity.{valid}
@@ -31,25 +29,22 @@ use Rattle.nucleus.specs.declared.EtData.{EtData}
 use Rattle.nucleus.specs.declared.Response.{Response}
 use Rattle.nucleus.specs.declared.State.{State}
 use Rattle.nucleus.specs.declared.User.{User}
-use Rattle.shares.specs.Shares.{share, assigned_with, with_share}
+use Rattle.shares.specs.Shares.{share, assigned_with, with_share, Verdict}
 use Rattle.shares.specs.Chains.{max_scratch}
 use Rattle.shares.specs.declared.Done.{Done}
 use Rattle.settling.specs.Settling.{going_words, lined_by}
 use Rattle.settling.specs.Laws.{lined_noted}
 use Rattle.handing.specs.Parts.{nucleus_of}
 use Rattle.handing.specs.declared.Standing.{Standing}
-use Rattle.shares.specs.declared.Verdict.{Verdict}
-use Rattle.shares.specs.declared.Verdict.TheVariants.{Passed, Refused}
 use Rattle.access.specs.Access.{admission_of}
 use Rattle.understanding.specs.Understanding.{understood_as}
 use Rattle.understanding.proofs.Laws.{Plain, understood_plain}
-use Rattle.understanding.specs.declared.Understood.TheVariants.{As}
 use Rattle.file_commands.specs.FileCommands.{left}
 use Rattle.calls.specs.Commands.{performed}
 use Rattle.calls.specs.Laws.{left_on, performed_is}
 
 -- a new record of a valid table's file has its room
-pub small_record : (d : Definition) → DefinitionShape d → valid d ≡ true → (file i : ℕ) → place d file ≡ At i → record_length (file_at d i) ≤ max_scratch
+pub small_record : (d : Definition) → DefinitionShape d → valid d ≡ true → (file i : ℕ) → place d file ≡ Some i → record_length (file_at d i) ≤ max_scratch
 small_record d s v file i there = (valid_at d s v i (place_found d s file i there).0).length_most
 
 -- a command, and the line after it
@@ -59,17 +54,17 @@ served_lined r n = after_line r n (perform r n)
 -- ---- a call
 module _ (capacity : ℕ) (call : Call) (format buffer : List ℕ) (n : Nucleus) where
   -- 12 and 11
-  pub step_unusable : (cause : Response) → first_cause (rows_usable capacity n) ≡ some cause → step capacity call format buffer n ≡ refusal buffer n cause
+  pub step_unusable : (cause : Response) → first_cause (rows_usable capacity n) ≡ Some cause → step capacity call format buffer n ≡ refusal buffer n cause
   unfolding step admitted
   step_unusable cause e = rw e
 
-  module _ (usable : first_cause (rows_usable capacity n) ≡ none) where
+  module _ (usable : first_cause (rows_usable capacity n) ≡ None) where
     -- 22 and 72
-    pub step_misunderstood : (cause : Response) → first_cause (rows_understood direct_commands call) ≡ some cause → step capacity call format buffer n ≡ refusal buffer n cause
+    pub step_misunderstood : (cause : Response) → first_cause (rows_understood direct_commands call) ≡ Some cause → step capacity call format buffer n ≡ refusal buffer n cause
     unfolding step admitted
     step_misunderstood cause e = rw (usable, e)
 
-    module _ (c : Command) (understood : first_cause (rows_understood direct_commands call) ≡ none) (known : command_of direct_commands call.command ≡ some c) (m : Nucleus) where
+    module _ (c : Command) (understood : first_cause (rows_understood direct_commands call) ≡ None) (known : command_of direct_commands call.command ≡ Some c) (m : Nucleus) where
       -- 9, 211, 29 and 212
       pub step_turned : (cause : Response) → admitted_user c call (clocked call.clock (left_by c call n)) ≡ turned_away cause m → step capacity call format buffer n ≡ refusal buffer m cause
       unfolding step admitted
@@ -120,18 +115,18 @@ module _ (capacity : ℕ) (call : Call) (format buffer : List ℕ) (s : State) (
     abbrev admitted_to : Nucleus
     admitted_to = nucleus_of s.definition clock left s.et_data s.last_assigned store' queue' images'
 
-    module _ (c : Command) (usable : first_cause (rows_usable capacity begun) ≡ none) (understood : understood_as direct_commands call ≡ As c) where
+    module _ (c : Command) (usable : first_cause (rows_usable capacity begun) ≡ None) (understood : understood_as direct_commands call ≡ Ok c) where
       abbrev plain : Plain direct_commands call c
       plain = understood_plain direct_commands call c understood
 
       abbrev Judged : Verdict → Type 0
       Judged v = admitted_user c call (clocked call.clock (left_by c call begun)) ≡ admission_of v c admitted_to
 
-      pub refused_through : (v : Verdict) (cause : Response) → Judged v → v ≡ Refused cause → refusal buffer admitted_to cause ≡ step capacity call format buffer begun
+      pub refused_through : (v : Verdict) (cause : Response) → Judged v → v ≡ Err cause → refusal buffer admitted_to cause ≡ step capacity call format buffer begun
       refused_through v cause e told =
           sym (step_turned capacity call format buffer begun usable c plain.passed plain.known admitted_to cause (e ∙ ap (λ w. admission_of w c admitted_to) told))
 
-      pub performed_through : (v : Verdict) → Judged v → v ≡ Passed → served_lined (request capacity c call format buffer) admitted_to ≡ step capacity call format buffer begun
+      pub performed_through : (v : Verdict) → Judged v → v ≡ Ok tt → served_lined (request capacity c call format buffer) admitted_to ≡ step capacity call format buffer begun
       performed_through v e told =
           sym (step_let_in capacity call format buffer begun usable c plain.passed plain.known admitted_to (e ∙ ap (λ w. admission_of w c admitted_to) told))
 

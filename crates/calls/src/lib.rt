@@ -19,9 +19,7 @@ ghost use Rattle.nucleus.specs.declared.Command.TheVariants.{Ri};
 use definition::{Definition, MAX_FILES};
 use handing::Standing;
 use nucleus::{Answer, Call, Command, MAX_CAPACITY, Response, State};
-use records::Found;
-use shares::{Done, Share, Verdict};
-use understanding::Understood;
+use shares::{Done, Share};
 
 // What a call answers, and the state that it leaves.
 #[derive(Clone, Copy)]
@@ -38,7 +36,7 @@ fn in_file(
     clock: u32,
     share: Share,
     d: Definition,
-    found: Found,
+    found: Option<usize>,
     store: &mut [u8],
     queue: &mut [u64],
     images: &mut [u8],
@@ -50,7 +48,7 @@ fn in_file(
     ensures { left result store.new queue.new images.new buffer.new
         ≡ in_file call most clock share d store.old queue.old images.old format.now buffer.old found command }
 {
-    let Found::At(i) = found else {
+    let Some(i) = found else {
         return shares::refused(Response::FileUnknown, share);
     };
     let f = definition::file_at(d, i);
@@ -83,7 +81,7 @@ fn ri(
     clock: u32,
     share: Share,
     d: Definition,
-    found: Found,
+    found: Option<usize>,
     store: &mut [u8],
     queue: &mut [u64],
     images: &mut [u8],
@@ -123,7 +121,7 @@ fn perform(
     clock: u32,
     share: Share,
     d: Definition,
-    found: Found,
+    found: Option<usize>,
     store: &mut [u8],
     queue: &mut [u64],
     images: &mut [u8],
@@ -178,10 +176,10 @@ fn refused(cause: Response, state: State) -> Outcome
 }
 
 // The ISN that N1 last gave in the file that was found.
-fn assigned_in(assigned: [u16; MAX_FILES], found: Found) -> u16
+fn assigned_in(assigned: [u16; MAX_FILES], found: Option<usize>) -> u16
     ensures { result ≡ assigned_in assigned found }
 {
-    let Found::At(i) = found else {
+    let Some(i) = found else {
         return 0;
     };
     if i < MAX_FILES {
@@ -190,10 +188,10 @@ fn assigned_in(assigned: [u16; MAX_FILES], found: Found) -> u16
     0
 }
 
-fn assigned_with(mut assigned: [u16; MAX_FILES], found: Found, isn: u16) -> [u16; MAX_FILES]
+fn assigned_with(mut assigned: [u16; MAX_FILES], found: Option<usize>, isn: u16) -> [u16; MAX_FILES]
     ensures { result ≡ assigned_with assigned found isn }
 {
-    let Found::At(i) = found else {
+    let Some(i) = found else {
         return assigned;
     };
     if i < MAX_FILES {
@@ -332,13 +330,13 @@ pub fn step(
         ≡ step capacity call format.now buffer.old (nucleus state store.old queue.old images.old) }
 {
     let usable = usability::usable(state, capacity, store, queue, images);
-    if let Verdict::Refused(cause) = usable {
+    if let Err(cause) = usable {
         return refused(cause, state);
     }
     let understood = understanding::understand(call);
     let command = match understood {
-        Understood::As(command) => command,
-        Understood::Refused(cause) => return refused(cause, state),
+        Ok(command) => command,
+        Err(cause) => return refused(cause, state),
     };
     let d = state.definition;
     let users = state.users;
@@ -366,7 +364,7 @@ pub fn step(
     state.count = left.count;
     state.wait_queue = waiters;
     let verdict = admitted.verdict;
-    if let Verdict::Refused(cause) = verdict {
+    if let Err(cause) = verdict {
         return refused(cause, state);
     }
     serve_lined(

@@ -1,8 +1,7 @@
 -- The rows of a change are E1's; where none refuses, a record is there.
 -- Assumes nothing.
-use Rattle.std.specs.Prelude.{ℕ, ◌≡◌, true, List, [], ◌∷◌, ◌++◌}
+use Rattle.std.specs.Prelude.{ℕ, ◌≡◌, true, List, [], ◌∷◌, ◌++◌, None}
 use Rattle.std.proofs.Math.Path.{refl}
-use Rattle.std.proofs.Math.Option.{none}
 use Rattle.std.proofs.lemmas.Bool.{not-false}
 use Rattle.definition.specs.declared.File.{File}
 use Rattle.store.specs.Store.{has_record}
@@ -19,7 +18,7 @@ module _ (f : File) (part : List ℕ) (call : Call) (x : Share) (queue : List �
   e1_cause_is = refl
 
   -- whatever rows come after
-  pub change_there : (later : List Row) → first_cause (rows_changed f part call x queue room ++ later) ≡ none → has_record f part call.isn ≡ true
+  pub change_there : (later : List Row) → first_cause (rows_changed f part call x queue room ++ later) ≡ None → has_record f part call.isn ≡ true
   change_there later e =
       let behind = row_held call x queue call.isn ∷ rows_room call x queue room call.isn ++ later in
       not-false (has_record f part call.isn)

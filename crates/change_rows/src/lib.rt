@@ -8,8 +8,7 @@ ghost use Rattle.change_rows.specs.ChangeRows.{rows_changed};
 
 use definition::File;
 use nucleus::{Call, Response, TAKE_HOLD};
-use queue::Lookup;
-use shares::{Share, Verdict};
+use shares::Share;
 
 // The rows of a change at the call's ISN: 145, 113, 144, 47 and 70.
 pub fn changeable(
@@ -19,22 +18,22 @@ pub fn changeable(
     f: File,
     part: &[u8],
     queue: &[u64],
-) -> Verdict
+) -> Result<(), Response>
     ensures { result ≡ verdict (first_cause (rows_changed f part.now call share queue.now most)) }
 {
     let found = queue::holder(queue, share.count, call.file, call.isn);
     if hold_rows::other_holds(found, call.user) {
-        return Verdict::Refused(Response::HeldByAnother);
+        return Err(Response::HeldByAnother);
     }
     if !store::has_record(f, part, call.isn) {
-        return Verdict::Refused(Response::Presence);
+        return Err(Response::Presence);
     }
     if call.option == TAKE_HOLD {
         return hold_rows::room(call, share, queue, most, call.isn);
     }
     // Past 145 an entry is the caller's, and then there is no new one.
-    let Lookup::Held(_, _) = found else {
-        return Verdict::Refused(Response::NotHeld);
+    let Some((_, _)) = found else {
+        return Err(Response::NotHeld);
     };
-    Verdict::Passed
+    Ok(())
 }

@@ -4,8 +4,7 @@
 -- own format and record buffer; and for every list of BTs of different users whom the journal then has in a transaction: after the calls and those
 -- BTs the nucleus has the records that the journal has with those users' open changes struck. With no BT at all this is the first half of the
 -- requirement: after every list of calls the nucleus has the records of the journal.
-use Rattle.std.specs.Prelude.{ℕ, ◌<◌, ◌≡◌, ◌≢◌, true, List, map, eqb}
-use Rattle.std.proofs.Math.Option.{some}
+use Rattle.std.specs.Prelude.{ℕ, ◌<◌, ◌≡◌, ◌≢◌, true, List, map, eqb, Some}
 use Rattle.lists.specs.Folds.{all, distinct}
 use Rattle.definition.specs.Table.{field_at, field_count}
 use Rattle.definition.specs.declared.FieldOption.TheVariants.{Unique}
@@ -33,8 +32,8 @@ abbrev pub UniqueValues : Definition → List ℕ → Type 0
 UniqueValues d store =
     (file isn other k : ℕ) (a b : List ℕ)
     → isn ≢ other
-    → record_in d store file isn ≡ some a
-    → record_in d store file other ≡ some b
+    → record_in d store file isn ≡ Some a
+    → record_in d store file other ≡ Some b
     → k < field_count (file_numbered d file)
     → (field_at (file_numbered d file) k).option ≡ Unique
     → field_value (file_numbered d file) k a ≢ field_value (file_numbered d file) k b

@@ -1,8 +1,7 @@
 -- Worked rows: lists of calls, and what document 01 says is then there, beside what nucleus and journal compute. The journal has `late`, the writing of
 -- fields and other definitions from the nucleus and from the crates below it: an error in one of them would leave the claim true, and is seen here.
 -- Assumes nothing.
-use Rattle.std.specs.Prelude.{ℕ, ◌*◌, ◌≡◌, refl, Bool, true, false, List, [], ◌∷◌, ◌++◌, map, replicate, take}
-use Rattle.std.proofs.Math.Option.{Option, none, some}
+use Rattle.std.specs.Prelude.{ℕ, ◌*◌, ◌≡◌, refl, Bool, true, false, List, [], ◌∷◌, ◌++◌, map, replicate, take, Option, Some, None}
 use Prim.Native.String.{String}
 use Rattle.lists.specs.Folds.{Each}
 use Rattle.lists.specs.Numbers.{numbers}
@@ -107,14 +106,14 @@ abbrev both : List (Option (List ℕ)) → List ℕ → Member → Member → �
 both records active one two clock = record { journal = told records active one two clock; records = records; active = active }
 
 abbrev idle : ℕ → Member
-idle limit = record { limit = limit; start = none; ready = false }
+idle limit = record { limit = limit; start = None; ready = false }
 
 abbrev since : ℕ → ℕ → Member
-since start limit = record { limit = limit; start = some start; ready = false }
+since start limit = record { limit = limit; start = Some start; ready = false }
 
 -- and set ready
 abbrev ready_since : ℕ → ℕ → Member
-ready_since start limit = record { limit = limit; start = some start; ready = true }
+ready_since start limit = record { limit = limit; start = Some start; ready = true }
 
 -- ---- calls: file 1, option blank, all else 0 or empty, unless named
 abbrev sent : String → ℕ → ℕ → ℕ → ℕ → ℕ → List ℕ → List ℕ → Given
@@ -209,82 +208,82 @@ back_out_row calls bs expected = record { computed = after_back_outs house_table
 rows : List Row
 rows =
     -- the house list: the change of user 1 is backed out; N1 and L4 of user 2 were refused, and L1 holds nothing
-    row house_calls (both (some (text "2AB") ∷ none ∷ none ∷ []) [] (idle 900) (idle 900) 0) ∷
+    row house_calls (both (Some (text "2AB") ∷ None ∷ None ∷ []) [] (idle 900) (idle 900) 0) ∷
     -- after its fourth call: the A1 of user 1 stands, in his transaction
-    row (take 4 house_calls) (both (some (text "3AB") ∷ none ∷ none ∷ []) (1 ∷ []) (since 0 900) (idle 900) 0) ∷
+    row (take 4 house_calls) (both (Some (text "3AB") ∷ None ∷ None ∷ []) (1 ∷ []) (since 0 900) (idle 900) 0) ∷
     -- and a BT after that
-    back_out_row (take 4 house_calls) (out 1 ∷ []) (both (some (text "2AB") ∷ none ∷ none ∷ []) [] (idle 900) (idle 900) 0) ∷
+    back_out_row (take 4 house_calls) (out 1 ∷ []) (both (Some (text "2AB") ∷ None ∷ None ∷ []) [] (idle 900) (idle 900) 0) ∷
     -- no BT, one or both, after two changes
-    back_out_row two_adds [] (both (some (text "2AB") ∷ some (text "7  ") ∷ none ∷ []) (1 ∷ 2 ∷ []) (since 0 900) (since 500 900) 500) ∷
-    back_out_row two_adds (out 2 ∷ []) (both (some (text "2AB") ∷ none ∷ none ∷ []) (1 ∷ []) (since 0 900) (idle 900) 500) ∷
-    back_out_row two_adds (out 2 ∷ out 1 ∷ []) (both (none ∷ none ∷ none ∷ []) [] (idle 900) (idle 900) 500) ∷
+    back_out_row two_adds [] (both (Some (text "2AB") ∷ Some (text "7  ") ∷ None ∷ []) (1 ∷ 2 ∷ []) (since 0 900) (since 500 900) 500) ∷
+    back_out_row two_adds (out 2 ∷ []) (both (Some (text "2AB") ∷ None ∷ None ∷ []) (1 ∷ []) (since 0 900) (idle 900) 500) ∷
+    back_out_row two_adds (out 2 ∷ out 1 ∷ []) (both (None ∷ None ∷ None ∷ []) [] (idle 900) (idle 900) 500) ∷
     -- "whose transaction began more than his limit ago": not at 900
-    row (adds 0 ∷ reads 900 ∷ []) (both (some (text "2AB") ∷ none ∷ none ∷ []) (1 ∷ []) (since 0 900) (idle 900) 900) ∷
-    row (adds 0 ∷ reads 901 ∷ []) (both (none ∷ none ∷ none ∷ []) [] (idle 900) (idle 900) 901) ∷
+    row (adds 0 ∷ reads 900 ∷ []) (both (Some (text "2AB") ∷ None ∷ None ∷ []) (1 ∷ []) (since 0 900) (idle 900) 900) ∷
+    row (adds 0 ∷ reads 901 ∷ []) (both (None ∷ None ∷ None ∷ []) [] (idle 900) (idle 900) 901) ∷
     -- the last user too
-    row (bare "HI" 32 1 0 ∷ reads 901 ∷ []) (both (none ∷ none ∷ none ∷ []) [] (idle 900) (idle 900) 901) ∷
+    row (bare "HI" 32 1 0 ∷ reads 901 ∷ []) (both (None ∷ None ∷ None ∷ []) [] (idle 900) (idle 900) 901) ∷
     -- "OP answered 0 sets his time limit to the call's limit, 900 where that is 0; CL answered 0 sets it to 900"
-    row (opens 10 ∷ adds 0 ∷ reads 10 ∷ []) (both (some (text "2AB") ∷ none ∷ none ∷ []) (1 ∷ []) (since 0 10) (idle 900) 10) ∷
-    row (opens 10 ∷ adds 0 ∷ reads 11 ∷ []) (both (none ∷ none ∷ none ∷ []) [] (idle 10) (idle 900) 11) ∷
-    row (opens 10 ∷ opens 0 ∷ []) (both (none ∷ none ∷ none ∷ []) [] (idle 900) (idle 900) 0) ∷
-    row (opens 10 ∷ bare "CL" 1 0 0 ∷ []) (both (none ∷ none ∷ none ∷ []) [] (idle 900) (idle 900) 0) ∷
+    row (opens 10 ∷ adds 0 ∷ reads 10 ∷ []) (both (Some (text "2AB") ∷ None ∷ None ∷ []) (1 ∷ []) (since 0 10) (idle 900) 10) ∷
+    row (opens 10 ∷ adds 0 ∷ reads 11 ∷ []) (both (None ∷ None ∷ None ∷ []) [] (idle 10) (idle 900) 11) ∷
+    row (opens 10 ∷ opens 0 ∷ []) (both (None ∷ None ∷ None ∷ []) [] (idle 900) (idle 900) 0) ∷
+    row (opens 10 ∷ bare "CL" 1 0 0 ∷ []) (both (None ∷ None ∷ None ∷ []) [] (idle 900) (idle 900) 0) ∷
     -- "OP or CL with 9 backs him out", and does nothing more
-    row (opens 10 ∷ adds 0 ∷ opens 20 ∷ []) (both (none ∷ none ∷ none ∷ []) [] (idle 10) (idle 900) 0) ∷
-    row (opens 10 ∷ adds 0 ∷ bare "CL" 1 0 0 ∷ []) (both (none ∷ none ∷ none ∷ []) [] (idle 10) (idle 900) 0) ∷
+    row (opens 10 ∷ adds 0 ∷ opens 20 ∷ []) (both (None ∷ None ∷ None ∷ []) [] (idle 10) (idle 900) 0) ∷
+    row (opens 10 ∷ adds 0 ∷ bare "CL" 1 0 0 ∷ []) (both (None ∷ None ∷ None ∷ []) [] (idle 10) (idle 900) 0) ∷
     -- ET ends his transaction, and no back-out or clock strikes its changes then; ET of another user does not
     row (adds 0 ∷ bare "ET" 1 0 0 ∷ bare "HI" 1 2 0 ∷ bare "BT" 1 0 0 ∷ reads 901 ∷ [])
-    (both (some (text "2AB") ∷ none ∷ none ∷ []) [] (idle 900) (idle 900) 901) ∷
-    row (adds 0 ∷ bare "ET" 2 0 0 ∷ reads 901 ∷ []) (both (none ∷ none ∷ none ∷ []) [] (idle 900) (idle 900) 901) ∷
+    (both (Some (text "2AB") ∷ None ∷ None ∷ []) [] (idle 900) (idle 900) 901) ∷
+    row (adds 0 ∷ bare "ET" 2 0 0 ∷ reads 901 ∷ []) (both (None ∷ None ∷ None ∷ []) [] (idle 900) (idle 900) 901) ∷
     -- a back-out of another user strikes nothing of his
-    row (adds 0 ∷ bare "HI" 2 2 0 ∷ bare "BT" 2 0 0 ∷ []) (both (some (text "2AB") ∷ none ∷ none ∷ []) (1 ∷ []) (since 0 900) (idle 900) 0) ∷
+    row (adds 0 ∷ bare "HI" 2 2 0 ∷ bare "BT" 2 0 0 ∷ []) (both (Some (text "2AB") ∷ None ∷ None ∷ []) (1 ∷ []) (since 0 900) (idle 900) 0) ∷
     -- N2 adds at the given ISN, with nulls in what is not named; E1 empties, and its back-out brings the record back
-    row (take 1 erasing) (both (none ∷ none ∷ some (text "9  ") ∷ []) (1 ∷ []) (since 0 900) (idle 900) 0) ∷
-    row erasing (both (none ∷ none ∷ none ∷ []) (1 ∷ []) (since 0 900) (idle 900) 0) ∷
-    row (erasing ++ (bare "BT" 1 0 0 ∷ [])) (both (none ∷ none ∷ some (text "9  ") ∷ []) [] (idle 900) (idle 900) 0) ∷
+    row (take 1 erasing) (both (None ∷ None ∷ Some (text "9  ") ∷ []) (1 ∷ []) (since 0 900) (idle 900) 0) ∷
+    row erasing (both (None ∷ None ∷ None ∷ []) (1 ∷ []) (since 0 900) (idle 900) 0) ∷
+    row (erasing ++ (bare "BT" 1 0 0 ∷ [])) (both (None ∷ None ∷ Some (text "9  ") ∷ []) [] (idle 900) (idle 900) 0) ∷
     -- "starts its user's transaction at that clock, unless he is in one": at the journal's own clock, the greatest that it was given
-    row (bare "HI" 1 1 5 ∷ bare "HI" 1 2 8 ∷ bare "HI" 2 3 6 ∷ []) (both (none ∷ none ∷ none ∷ []) (1 ∷ 2 ∷ []) (since 5 900) (since 8 900) 8) ∷
+    row (bare "HI" 1 1 5 ∷ bare "HI" 1 2 8 ∷ bare "HI" 2 3 6 ∷ []) (both (None ∷ None ∷ None ∷ []) (1 ∷ 2 ∷ []) (since 5 900) (since 8 900) 8) ∷
     -- L4 starts one; L1, RE and RI do not; RI of all entries ends none
     row (adds 0 ∷ bare "ET" 1 0 0 ∷ sent "L4" blank 2 1 0 0 (text "RC.") (0 ∷ []) ∷ bare "RI" 2 0 0 ∷ bare "RE" 1 0 0 ∷ bare "RI" 1 0 0 ∷ [])
-    (both (some (text "2AB") ∷ none ∷ none ∷ []) (2 ∷ []) (idle 900) (since 0 900) 0) ∷
+    (both (Some (text "2AB") ∷ None ∷ None ∷ []) (2 ∷ []) (idle 900) (since 0 900) 0) ∷
     -- document 02, No. 5: with `.` A1 starts one and sets nothing, and so there is nothing that a back-out puts back; L4 starts one; N1 adds nulls
-    row replacing_nothing (both (some (text "2AB") ∷ none ∷ none ∷ []) (1 ∷ []) (since 5 900) (idle 900) 5) ∷
-    back_out_row replacing_nothing (out 1 ∷ []) (both (some (text "2AB") ∷ none ∷ none ∷ []) [] (idle 900) (idle 900) 5) ∷
+    row replacing_nothing (both (Some (text "2AB") ∷ None ∷ None ∷ []) (1 ∷ []) (since 5 900) (idle 900) 5) ∷
+    back_out_row replacing_nothing (out 1 ∷ []) (both (Some (text "2AB") ∷ None ∷ None ∷ []) [] (idle 900) (idle 900) 5) ∷
     row (adds 0 ∷ bare "ET" 1 0 0 ∷ sent "L4" blank 2 1 0 7 (text ".") [] ∷ [])
-    (both (some (text "2AB") ∷ none ∷ none ∷ []) (2 ∷ []) (idle 900) (since 7 900) 7) ∷
-    row (sent "N1" blank 1 0 0 0 (text ".") [] ∷ []) (both (some (text "   ") ∷ none ∷ none ∷ []) (1 ∷ []) (since 0 900) (idle 900) 0) ∷
+    (both (Some (text "2AB") ∷ None ∷ None ∷ []) (2 ∷ []) (idle 900) (since 7 900) 7) ∷
+    row (sent "N1" blank 1 0 0 0 (text ".") [] ∷ []) (both (Some (text "   ") ∷ None ∷ None ∷ []) (1 ∷ []) (since 0 900) (idle 900) 0) ∷
     -- document 02, No. 12: "time doesn't back him out (nor in the book of requirement 3, after a PE answered 0)", and the record stays; a BT still does
-    row (take 4 ready_list) (both (some (text "2AB") ∷ none ∷ none ∷ []) (1 ∷ []) (ready_since 0 900) (idle 900) 901) ∷
-    row ready_list (both (some (text "2AB") ∷ none ∷ none ∷ []) [] (idle 900) (idle 900) 901) ∷
-    back_out_row (take 4 ready_list) (out 1 ∷ []) (both (none ∷ none ∷ none ∷ []) [] (idle 900) (idle 900) 901) ∷
-    row (take 3 ready_list ++ (reads 10000 ∷ [])) (both (some (text "2AB") ∷ none ∷ none ∷ []) (1 ∷ []) (ready_since 0 900) (idle 900) 10000) ∷
+    row (take 4 ready_list) (both (Some (text "2AB") ∷ None ∷ None ∷ []) (1 ∷ []) (ready_since 0 900) (idle 900) 901) ∷
+    row ready_list (both (Some (text "2AB") ∷ None ∷ None ∷ []) [] (idle 900) (idle 900) 901) ∷
+    back_out_row (take 4 ready_list) (out 1 ∷ []) (both (None ∷ None ∷ None ∷ []) [] (idle 900) (idle 900) 901) ∷
+    row (take 3 ready_list ++ (reads 10000 ∷ [])) (both (Some (text "2AB") ∷ None ∷ None ∷ []) (1 ∷ []) (ready_since 0 900) (idle 900) 10000) ∷
     -- "OP and CL do so still"
-    row (take 3 ready_list ++ (bare "CL" 1 0 0 ∷ [])) (both (none ∷ none ∷ none ∷ []) [] (idle 900) (idle 900) 0) ∷
-    row (take 3 ready_list ++ (opens 20 ∷ [])) (both (none ∷ none ∷ none ∷ []) [] (idle 900) (idle 900) 0) ∷
+    row (take 3 ready_list ++ (bare "CL" 1 0 0 ∷ [])) (both (None ∷ None ∷ None ∷ []) [] (idle 900) (idle 900) 0) ∷
+    row (take 3 ready_list ++ (opens 20 ∷ [])) (both (None ∷ None ∷ None ∷ []) [] (idle 900) (idle 900) 0) ∷
     -- a call answered 211 changes nothing but the clock; a PE answered 212 sets nothing ready
-    row (take 3 ready_list ++ (adds 5 ∷ [])) (both (some (text "2AB") ∷ none ∷ none ∷ []) (1 ∷ []) (ready_since 0 900) (idle 900) 5) ∷
-    row (bare "PE" 1 0 0 ∷ adds 0 ∷ reads 901 ∷ []) (both (none ∷ none ∷ none ∷ []) [] (idle 900) (idle 900) 901) ∷
+    row (take 3 ready_list ++ (adds 5 ∷ [])) (both (Some (text "2AB") ∷ None ∷ None ∷ []) (1 ∷ []) (ready_since 0 900) (idle 900) 5) ∷
+    row (bare "PE" 1 0 0 ∷ adds 0 ∷ reads 901 ∷ []) (both (None ∷ None ∷ None ∷ []) [] (idle 900) (idle 900) 901) ∷
     -- "to that transaction's end": the next one is not ready
     row (adds 0 ∷ bare "PE" 1 0 0 ∷ bare "ET" 1 0 0 ∷ bare "HI" 1 2 0 ∷ reads 901 ∷ [])
-    (both (some (text "2AB") ∷ none ∷ none ∷ []) [] (idle 900) (idle 900) 901) ∷
+    (both (Some (text "2AB") ∷ None ∷ None ∷ []) [] (idle 900) (idle 900) 901) ∷
     -- document 02, No. 1: a 20 starts nothing; a hold handed over "opens a transaction then"
-    row (take 2 waiting_list) (both (none ∷ none ∷ none ∷ []) (1 ∷ []) (since 0 900) (idle 900) 0) ∷
-    row waiting_list (both (none ∷ none ∷ none ∷ []) (2 ∷ []) (idle 900) (since 0 900) 0) ∷
-    row (take 4 overdue_receiver) (both (none ∷ some (text "7  ") ∷ none ∷ []) (2 ∷ []) (idle 900) (since 0 900) 900) ∷
-    row overdue_receiver (both (none ∷ none ∷ none ∷ []) [] (idle 900) (idle 900) 901) ∷
+    row (take 2 waiting_list) (both (None ∷ None ∷ None ∷ []) (1 ∷ []) (since 0 900) (idle 900) 0) ∷
+    row waiting_list (both (None ∷ None ∷ None ∷ []) (2 ∷ []) (idle 900) (since 0 900) 0) ∷
+    row (take 4 overdue_receiver) (both (None ∷ Some (text "7  ") ∷ None ∷ []) (2 ∷ []) (idle 900) (since 0 900) 900) ∷
+    row overdue_receiver (both (None ∷ None ∷ None ∷ []) [] (idle 900) (idle 900) 901) ∷
     -- a closing BT may bring a waiter into a transaction: it strikes nothing of his
-    back_out_row (take 2 waiting_list) (out 1 ∷ []) (both (none ∷ none ∷ none ∷ []) (2 ∷ []) (idle 900) (since 0 900) 0) ∷
+    back_out_row (take 2 waiting_list) (out 1 ∷ []) (both (None ∷ None ∷ None ∷ []) (2 ∷ []) (idle 900) (since 0 900) 0) ∷
     -- "A response of 72's row or an earlier one changes nothing in it": 22, 72; a later one raises the clock: 113
-    row (adds 0 ∷ bare "XX" 2 1 901 ∷ bare "HI" 33 1 901 ∷ []) (both (some (text "2AB") ∷ none ∷ none ∷ []) (1 ∷ []) (since 0 900) (idle 900) 0) ∷
-    row (adds 0 ∷ bare "HI" 2 4 901 ∷ []) (both (none ∷ none ∷ none ∷ []) [] (idle 900) (idle 900) 901) ∷
+    row (adds 0 ∷ bare "XX" 2 1 901 ∷ bare "HI" 33 1 901 ∷ []) (both (Some (text "2AB") ∷ None ∷ None ∷ []) (1 ∷ []) (since 0 900) (idle 900) 0) ∷
+    row (adds 0 ∷ bare "HI" 2 4 901 ∷ []) (both (None ∷ None ∷ None ∷ []) [] (idle 900) (idle 900) 901) ∷
     -- "in stored form": 1 with sign C is kept with F
     record {
       computed = after_calls packed_table (sent "N1" blank 1 0 0 0 (text "PA.") (0x00 ∷ 0x1C ∷ []) ∷ []);
-      expected = both (some (0x00 ∷ 0x1F ∷ []) ∷ none ∷ none ∷ []) (1 ∷ []) (since 0 900) (idle 900) 0;
+      expected = both (Some (0x00 ∷ 0x1F ∷ []) ∷ None ∷ None ∷ []) (1 ∷ []) (since 0 900) (idle 900) 0;
     } ∷
     -- nothing of the nucleus's state comes into the journal: one that is ahead of it goes by its own clock
     record {
       computed = view house_table (run capacity (bare "HI" 1 1 3 ∷ []) (record { database = (fresh_world house_table).database; journal = ahead }));
-      expected = both (none ∷ none ∷ none ∷ []) (1 ∷ []) (since 7 900) (idle 900) 7;
+      expected = both (None ∷ None ∷ None ∷ []) (1 ∷ []) (since 7 900) (idle 900) 7;
     } ∷ []
 
 -- ---- answers that the nucleus never gives there, fed to the journal alone
@@ -308,16 +307,16 @@ journal_rows : List JournalRow
 journal_rows =
     -- 10, 11, 12 change nothing
     journal_row (answered 0 1 (adds 0) ∷ answered 10 0 (reads 901) ∷ answered 11 0 (reads 901) ∷ answered 12 0 (reads 901) ∷ [])
-    (told (some (text "2AB") ∷ none ∷ none ∷ []) (1 ∷ []) (since 0 900) (idle 900) 0) ∷
+    (told (Some (text "2AB") ∷ None ∷ None ∷ []) (1 ∷ []) (since 0 900) (idle 900) 0) ∷
     -- only OP or CL with 9 backs him out
     journal_row (answered 0 1 (adds 0) ∷ answered 9 0 (bare "ET" 1 0 5) ∷ answered 9 0 (bare "HI" 1 2 6) ∷ [])
-    (told (some (text "2AB") ∷ none ∷ none ∷ []) (1 ∷ []) (since 0 900) (idle 900) 6) ∷
+    (told (Some (text "2AB") ∷ None ∷ None ∷ []) (1 ∷ []) (since 0 900) (idle 900) 6) ∷
     -- "A1 sets the named fields of a record there": where there is none it makes none
-    journal_row (answered 0 1 (sent "A1" blank 1 1 0 0 (text "RC.") (text "3")) ∷ []) (told (none ∷ none ∷ none ∷ []) (1 ∷ []) (since 0 900) (idle 900) 0) ∷
+    journal_row (answered 0 1 (sent "A1" blank 1 1 0 0 (text "RC.") (text "3")) ∷ []) (told (None ∷ None ∷ None ∷ []) (1 ∷ []) (since 0 900) (idle 900) 0) ∷
     -- only a PE answered 0 sets ready
-    journal_row (answered 0 1 (adds 0) ∷ answered 211 0 (bare "PE" 1 0 0) ∷ answered 0 1 (reads 901) ∷ []) (told (none ∷ none ∷ none ∷ []) [] (idle 900) (idle 900) 901) ∷
+    journal_row (answered 0 1 (adds 0) ∷ answered 211 0 (bare "PE" 1 0 0) ∷ answered 0 1 (reads 901) ∷ []) (told (None ∷ None ∷ None ∷ []) [] (idle 900) (idle 900) 901) ∷
     -- a record of another file
-    journal_row (answered 0 1 (in_file 2 (adds 0)) ∷ []) (told (none ∷ none ∷ none ∷ []) (1 ∷ []) (since 0 900) (idle 900) 0) ∷ []
+    journal_row (answered 0 1 (in_file 2 (adds 0)) ∷ []) (told (None ∷ None ∷ None ∷ []) (1 ∷ []) (since 0 900) (idle 900) 0) ∷ []
 
 -- ---- the hold queue: "oldest first, and removal closes the gap"; entries past H, here 2, as they were lent
 abbrev strange : Entry

@@ -1,7 +1,6 @@
 -- The journal (document 01's book of requirement 3): it has the set-up's table and is fed each call's arguments, response and ISN. Nothing of
 -- the nucleus's state comes into it.
-use Rattle.std.specs.Prelude.{ℕ, zero, suc, ◌+◌, ◌-◌, max, Bool, true, false, not, ◌&&◌, ◌||◌, List, [], ◌∷◌, ◌++◌, map, eqb, get_or, set, replicate}
-use Rattle.std.proofs.Math.Option.{Option, none, some}
+use Rattle.std.specs.Prelude.{ℕ, zero, suc, ◌+◌, ◌-◌, max, Bool, true, false, not, ◌&&◌, ◌||◌, List, [], ◌∷◌, ◌++◌, map, eqb, get_or, set, replicate, Option, Some, None}
 use Rattle.lists.specs.Tests.{cond, within}
 use Rattle.lists.specs.Folds.{any}
 use Rattle.lists.specs.Sift.{sift}
@@ -35,10 +34,10 @@ pub record Change : Type 0 where
 
 -- "in stored form: A1 sets the named fields of a record there, E1 empties, N1 and N2 add"
 unfoldable pub apply : File → Update → Option (List ℕ) → Option (List ℕ)
-apply f (replace format values) none = none
-apply f (replace format values) (some r) = some (write_fields f format values r)
-apply f erase x = none
-apply f (add format values) x = some (write_fields f format values (nulls (fields_of f)))
+apply f (replace format values) None = None
+apply f (replace format values) (Some r) = Some (write_fields f format values r)
+apply f erase x = None
+apply f (add format values) x = Some (write_fields f format values (nulls (fields_of f)))
 
 -- ---- the journal: "a clock, first 0, a list of changes and for each user a time limit, first 900, and the start of his transaction, if any", and
 -- whether that is ready (document 02, No. 12). A change that is struck is in the list no more. Document 02, No. 1: it "keeps holds and lines by these
@@ -70,7 +69,7 @@ pub record Journal : Type 0 where
   pub line : List Waiter
 
 abbrev pub new_member : Member
-new_member = record { limit = default_time_limit; start = none; ready = false }
+new_member = record { limit = default_time_limit; start = None; ready = false }
 
 abbrev pub new_journal : Journal
 new_journal = record { clock = 0; members = replicate max_users new_member; changes = []; holds = []; line = [] }
@@ -82,8 +81,8 @@ abbrev pub with_member : ℕ → Member → Journal → Journal
 with_member u m j = record { clock = j.clock; members = set j.members (u - 1) m; changes = j.changes; holds = j.holds; line = j.line }
 
 abbrev pub has_start : Option ℕ → Bool
-has_start none = false
-has_start (some begun) = true
+has_start None = false
+has_start (Some begun) = true
 
 -- "a user whom the book has in a transaction"
 abbrev pub in_transaction : Journal → ℕ → Bool
@@ -92,8 +91,8 @@ in_transaction j u = within 1 max_users u && has_start (member j u).start
 -- ---- what it does
 -- "starts its user's transaction at that clock, unless he is in one"
 abbrev pub start_at : ℕ → Option ℕ → Option ℕ
-start_at clock none = some clock
-start_at clock (some begun) = some begun
+start_at clock None = Some clock
+start_at clock (Some begun) = Some begun
 
 unfoldable pub log_start : ℕ → Journal → Journal
 log_start u j =
@@ -101,7 +100,7 @@ log_start u j =
 
 -- "his transaction ends", and with it that it is ready
 abbrev pub ended_member : Member → Member
-ended_member m = record { limit = m.limit; start = none; ready = false }
+ended_member m = record { limit = m.limit; start = None; ready = false }
 
 -- "his open changes are struck, his transaction ends"
 abbrev pub strikes : ℕ → Change → Bool
@@ -139,13 +138,13 @@ log_leave u j = with_holds j.holds (others u j.line) j
 
 -- who is first in the line of a record
 abbrev pub next_user : ℕ → ℕ → List Waiter → Option ℕ
-next_user file isn [] = none
-next_user file isn (w ∷ line) = cond (eqb w.file file && eqb w.isn isn) (some w.user) (next_user file isn line)
+next_user file isn [] = None
+next_user file isn (w ∷ line) = cond (eqb w.file file && eqb w.isn isn) (Some w.user) (next_user file isn line)
 
 -- "the first in line gets the hold"; it "opens a transaction then, where none is open (in the book of requirement 3 too ..)"
 abbrev pub log_handed_to : Option ℕ → ℕ → ℕ → Journal → Journal
-log_handed_to none file isn j = j
-log_handed_to (some u) file isn j =
+log_handed_to None file isn j = j
+log_handed_to (Some u) file isn j =
     log_start u (with_holds (j.holds ++ record { user = u; file = file; isn = isn; changed = false } ∷ []) (others u j.line) j)
 
 unfoldable pub log_handed_on : ℕ → ℕ → Journal → Journal
@@ -170,8 +169,8 @@ struck u j = log_let_go (hold_of u) (log_leave u (struck_changes u j))
 -- "backs out each user whose transaction began more than his limit ago"; No. 12: "time doesn't back him out (nor in the book of requirement 3, after a
 -- PE answered 0)"
 abbrev pub began_late : ℕ → ℕ → Option ℕ → Bool
-began_late clock limit none = false
-began_late clock limit (some begun) = late clock begun limit
+began_late clock limit None = false
+began_late clock limit (Some begun) = late clock begun limit
 
 abbrev pub is_late : ℕ → Member → Bool
 is_late clock m = not m.ready && began_late clock m.limit m.start
@@ -263,8 +262,8 @@ log_join c call j =
 
 -- of a command, and the number that answered it: "OP or CL with 9 backs him out"
 abbrev pub log_answered : Option Command → Call → List ℕ → List ℕ → ℕ → ℕ → Journal → Journal
-log_answered none call format buffer response isn j = j
-log_answered (some c) call format buffer response isn j =
+log_answered None call format buffer response isn j = j
+log_answered (Some c) call format buffer response isn j =
     cond (eqb response 0) (log_accepted c call format buffer isn j)
     (cond (eqb response 9 && one_of on_session c) (struck call.user j) (cond (eqb response 20) (log_join c call j) j))
 
@@ -278,8 +277,8 @@ abbrev pub waits_so : Command → Call → Waiter → Bool
 waits_so c call w = eqb w.user call.user && eqb w.file call.file && eqb w.isn call.isn && cond (reads c) w.reads (not w.reads)
 
 abbrev pub keeps_place : Option Command → Call → List Waiter → Bool
-keeps_place none call line = false
-keeps_place (some c) call line = one_of may_wait c && eqb call.option option_W && any (waits_so c call) line
+keeps_place None call line = false
+keeps_place (Some c) call line = one_of may_wait c && eqb call.option option_W && any (waits_so c call) line
 
 unfoldable pub log_left_by : Option Command → Call → Journal → Journal
 log_left_by c call j = cond (keeps_place c call j.line) j (log_leave call.user j)
@@ -299,4 +298,4 @@ replayed d file isn x [] = x
 replayed d file isn x (c ∷ cs) = replayed d file isn (cond (is_at file isn c) (apply (file_found d (place d file)) c.update x) x) cs
 
 unfoldable pub record_told : Definition → Journal → ℕ → ℕ → Option (List ℕ)
-record_told d j file isn = replayed d file isn none j.changes
+record_told d j file isn = replayed d file isn None j.changes

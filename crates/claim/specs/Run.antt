@@ -1,6 +1,5 @@
 -- A list of calls, one after another, on the nucleus and on the journal; and users backed out afterwards.
-use Rattle.std.specs.Prelude.{ℕ, List, [], ◌∷◌}
-use Rattle.std.proofs.Math.Option.{Option}
+use Rattle.std.specs.Prelude.{ℕ, List, [], ◌∷◌, Option}
 use Rattle.definition.specs.declared.Definition.{Definition}
 use Rattle.layout.specs.Layout.{place, file_found}
 use Rattle.store.specs.Store.{get}

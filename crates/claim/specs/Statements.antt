@@ -1,7 +1,6 @@
 -- Statements beside requirement 3, to be read with Claim.antt. Most are of every definition table, capacity and lent store, queue and images for
 -- which set-up answers 0, and of every list of calls after it.
-use Rattle.std.specs.Prelude.{ℕ, ◌≤◌, ◌≡◌, ◌⊎◌, Bool, true, false, not, ◌&&◌, List, [], ◌∷◌, map, eqb, length}
-use Rattle.std.proofs.Math.Option.{Option, none, some}
+use Rattle.std.specs.Prelude.{ℕ, ◌≤◌, ◌≡◌, ◌⊎◌, Bool, true, false, not, ◌&&◌, List, [], ◌∷◌, map, eqb, length, Option, Some, None}
 use Rattle.lists.specs.Tests.{within}
 use Rattle.lists.specs.Folds.{any, all}
 use Rattle.lists.specs.Sift.{sift}
@@ -133,13 +132,13 @@ abbrev pub record_after : ℕ → Definition → List BackOut → Database → �
 record_after capacity d bs b file isn = record_in d (back_outs capacity bs b).store file isn
 
 abbrev pub is_record : Option (List ℕ) → Bool
-is_record none = false
-is_record (some bytes) = true
+is_record None = false
+is_record (Some bytes) = true
 
 -- no bytes where there is none
 abbrev pub bytes_of : Option (List ℕ) → List ℕ
-bytes_of none = []
-bytes_of (some bytes) = bytes
+bytes_of None = []
+bytes_of (Some bytes) = bytes
 
 -- the whole record as a part
 abbrev pub CommittedPart : Type 0
@@ -159,7 +158,7 @@ pub record IsCommittedRead (g : Given) : Type 0 where
 pub record Reads (d : Definition) (g : Given) (r : Reply) (x : Option (List ℕ)) : Type 0 where
   pub there : number r.answer.response ≡ 0 → is_record x ≡ true
   pub fields_read : number r.answer.response ≡ 0 → r.buffer ≡ read_fields (file_numbered d g.call.file) g.format (bytes_of x) g.buffer
-  pub not_there : number r.answer.response ≡ 113 → x ≡ none
+  pub not_there : number r.answer.response ≡ 113 → x ≡ None
 
 -- the moment is that after the call's own clock and session, and a reading leaves all else as it was
 abbrev pub CommittedRead : Type 0
@@ -186,7 +185,7 @@ abbrev pub AddedTold : Type 0
 AddedTold =
     (d : Definition) (j : Journal) (call : Call) (format buffer : List ℕ) (isn : ℕ)
     → (call.command ≡ code N1) ⊎ (call.command ≡ code N2)
-    → record_told d (fed call format buffer 0 isn j) call.file isn ≡ some (record_added d call format buffer)
+    → record_told d (fed call format buffer 0 isn j) call.file isn ≡ Some (record_added d call format buffer)
 
 -- ---- "Bytes and entries past these sizes are never touched", by the calls and by the BTs after them
 abbrev pub AsLent : ℕ → Definition → Lent Entry → Database → Type 0

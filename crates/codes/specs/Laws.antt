@@ -1,16 +1,14 @@
 -- What stands at a place of the tables of commands, what is left of a search there, and what letters say.
 -- Assumes nothing.
-use Rattle.std.specs.Prelude.{ℕ, zero, suc, ◌+◌, ◌-◌, ◌≤◌, ◌<◌, ◌≡◌, refl, true, false, List, [], ◌∷◌, map, length, drop, get_or}
+use Rattle.std.specs.Prelude.{ℕ, zero, suc, ◌+◌, ◌-◌, ◌≤◌, ◌<◌, ◌≡◌, refl, true, false, List, [], ◌∷◌, map, length, drop, get_or, Option, Some, None}
 use Rattle.std.proofs.Common.{le_of_suc-le-suc, not-suc-le-zero, arith, ap, ◌∙◌, drop_of_length-le, get_or-append-add}
-use Rattle.std.proofs.Math.Option.{Option, none, some}
 use Rattle.std.proofs.Math.ListN.{get_or-append}
 use Rattle.lists.specs.Tests.{eqbs}
 use Rattle.lists.specs.Rest.{drop_more}
 use Rattle.nucleus.specs.Commands.{commands, later_commands, direct_commands, code, code_at, command_of}
 use Rattle.nucleus.specs.declared.Command.{Command}
 use Rattle.nucleus.specs.declared.Command.TheVariants.{Hi}
-use Rattle.codes.specs.Codes.{decoded, later_code_at, letters_at, command_at}
-use Rattle.codes.specs.declared.Decoded.TheVariants.{Known, Unknown}
+use Rattle.codes.specs.Codes.{later_code_at, letters_at, command_at}
 
 -- ---- at a place
 -- what a function makes of a list, within it: no default is read
@@ -26,9 +24,9 @@ pub letters_here : (i : ℕ) → i < 14 → letters_at i ≡ code (listed i)
 unfolding letters_at
 letters_here i h = mapped_at code direct_commands i Hi (0 ∷ 0 ∷ []) h
 
-pub command_here : (i : ℕ) → i < 14 → command_at i ≡ Known (listed i)
+pub command_here : (i : ℕ) → i < 14 → command_at i ≡ Some (listed i)
 unfolding command_at
-command_here i h = mapped_at Known direct_commands i Hi Unknown h
+command_here i h = mapped_at Some direct_commands i Hi None h
 
 -- in each table, and where the second stands behind the first
 pub code_here : (i : ℕ) → i < 13 → code_at i ≡ code (get_or commands i Hi)
@@ -51,7 +49,7 @@ letters_later i h =
 
 -- ---- what is left of a search at the i-th of some commands
 module _ (letters : List ℕ) (cs : List Command) (i : ℕ) where
-  pub found_here : i < length cs → eqbs (code (get_or cs i Hi)) letters ≡ true → command_of (drop i cs) letters ≡ some (get_or cs i Hi)
+  pub found_here : i < length cs → eqbs (code (get_or cs i Hi)) letters ≡ true → command_of (drop i cs) letters ≡ Some (get_or cs i Hi)
   unfolding command_of
   found_here h t = rw (drop_more cs i Hi h, t)
 
@@ -59,15 +57,6 @@ module _ (letters : List ℕ) (cs : List Command) (i : ℕ) where
   unfolding command_of
   found_later h t = rw (drop_more cs i Hi h, t)
 
-  pub found_nowhere : length cs ≤ i → command_of (drop i cs) letters ≡ none
+  pub found_nowhere : length cs ≤ i → command_of (drop i cs) letters ≡ None
   unfolding command_of
   found_nowhere h = rw (drop_of_length-le cs h)
-
--- ---- what letters say
-pub letters_known : (o : Option Command) (c : Command) → decoded o ≡ Known c → o ≡ some c
-letters_known (some d) c e = cc
-letters_known none c e = cc
-
-pub letters_unknown : (o : Option Command) → decoded o ≡ Unknown → o ≡ none
-letters_unknown (some d) e = cc
-letters_unknown none e = refl

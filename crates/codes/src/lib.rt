@@ -4,7 +4,7 @@
 ghost use Rattle.std.specs.Prelude.{◌≡◌};
 ghost use Rattle.lists.specs.Tests.{eqbs};
 ghost use Rattle.nucleus.specs.Commands.{direct_commands, code_at, command_of};
-ghost use Rattle.codes.specs.Codes.{decoded, later_code_at, letters_at, command_at};
+ghost use Rattle.codes.specs.Codes.{later_code_at, letters_at, command_at};
 
 use nucleus::{COMMANDS, Command, DIRECT_COMMANDS, LATER_COMMANDS};
 
@@ -16,13 +16,6 @@ const CODES: [[u8; 2]; COMMANDS] = [
 
 // The codes of the later commands, whose places are behind these. No kind of a house call list stands for one.
 const LATER_CODES: [[u8; 2]; LATER_COMMANDS] = [*b"PE"];
-
-// What two letters say.
-#[derive(Clone, Copy)]
-pub enum Decoded {
-    Known(Command),
-    Unknown,
-}
 
 // The code at a place of the table, from 0; zeros past its end.
 pub fn code_at(place: usize) -> [u8; 2]
@@ -55,25 +48,25 @@ fn letters_at(place: usize) -> [u8; 2]
 }
 
 // The command at a place of both tables, from 0.
-fn command_at(place: usize) -> Decoded
+fn command_at(place: usize) -> Option<Command>
     ensures { result ≡ command_at place }
 {
     match place {
-        0 => Decoded::Known(Command::Hi),
-        1 => Decoded::Known(Command::Ri),
-        2 => Decoded::Known(Command::L1),
-        3 => Decoded::Known(Command::L4),
-        4 => Decoded::Known(Command::A1),
-        5 => Decoded::Known(Command::E1),
-        6 => Decoded::Known(Command::N1),
-        7 => Decoded::Known(Command::N2),
-        8 => Decoded::Known(Command::Et),
-        9 => Decoded::Known(Command::Bt),
-        10 => Decoded::Known(Command::Re),
-        11 => Decoded::Known(Command::Op),
-        12 => Decoded::Known(Command::Cl),
-        13 => Decoded::Known(Command::Pe),
-        _ => Decoded::Unknown,
+        0 => Some(Command::Hi),
+        1 => Some(Command::Ri),
+        2 => Some(Command::L1),
+        3 => Some(Command::L4),
+        4 => Some(Command::A1),
+        5 => Some(Command::E1),
+        6 => Some(Command::N1),
+        7 => Some(Command::N2),
+        8 => Some(Command::Et),
+        9 => Some(Command::Bt),
+        10 => Some(Command::Re),
+        11 => Some(Command::Op),
+        12 => Some(Command::Cl),
+        13 => Some(Command::Pe),
+        _ => None,
     }
 }
 
@@ -84,8 +77,8 @@ fn same_letters(a: [u8; 2], b: [u8; 2]) -> bool
 }
 
 // The command with the letters, sought in one table after the other.
-pub fn command_of(letters: [u8; 2]) -> Decoded
-    ensures { result ≡ decoded (command_of direct_commands letters) }
+pub fn command_of(letters: [u8; 2]) -> Option<Command>
+    ensures { result ≡ command_of direct_commands letters }
 {
     let mut i = 0;
     while i < DIRECT_COMMANDS {
@@ -94,5 +87,5 @@ pub fn command_of(letters: [u8; 2]) -> Decoded
         }
         i += 1;
     }
-    Decoded::Unknown
+    None
 }

@@ -1,5 +1,5 @@
 -- A record as ended transactions left it (document 02, No. 8): which version of it that is, where it lies, and its bytes.
-use Rattle.std.specs.Prelude.{ℕ, ◌+◌, ◌*◌, Bool, true, false, List, [], leb, length}
+use Rattle.std.specs.Prelude.{ℕ, ◌+◌, ◌*◌, Bool, true, false, List, [], leb, length, Option, Some, None}
 use Rattle.lists.specs.Tests.{cond}
 use Rattle.lists.specs.Pieces.{piece}
 use Rattle.definition.specs.declared.File.{File}
@@ -7,17 +7,15 @@ use Rattle.records.specs.Records.{record_length, slot_offset}
 use Rattle.store.specs.Store.{has_record, shown}
 use Rattle.entries.specs.declared.Entry.{Entry}
 use Rattle.queue.specs.Queue.{holder}
-use Rattle.queue.specs.declared.Lookup.{Lookup}
-use Rattle.queue.specs.declared.Lookup.TheVariants.{Held, Free}
 use Rattle.committed.specs.declared.Version.{Version}
 use Rattle.committed.specs.declared.Version.TheVariants.{Stored, Imaged, Absent}
 use Rattle.committed.specs.declared.Place.{Place}
 
 -- ---- which version
 -- "A changed entry's image is shown, or 113 given where no record was before; otherwise the store": anybody's entry, the caller's too
-abbrev pub version_of : Lookup → Version
-version_of (Held i e) = cond e.changed (cond e.existed (Imaged i) Absent) Stored
-version_of Free = Stored
+abbrev pub version_of : Option (ℕ × Entry) → Version
+version_of (Some (i, e)) = cond e.changed (cond e.existed (Imaged i) Absent) Stored
+version_of None = Stored
 
 -- of the entries in use, for a file and an ISN
 unfoldable pub committed_version : List Entry → ℕ → ℕ → Version

@@ -9,7 +9,6 @@ ghost use Rattle.entries.specs.Entries.{entries};
 ghost use Rattle.committed.specs.Committed.{committed_version, image_inside, version_there, version_bytes, bytes_at};
 
 use definition::File;
-use queue::Lookup;
 
 // Which version of an ISN's record ended transactions left: the store's, the image of the entry at a place of the hold queue, or none, where an
 // open transaction added it.
@@ -34,7 +33,7 @@ pub fn committed_version(queue: &[u64], count: usize, file: u8, isn: u16) -> Ver
     ensures { result ≡ committed_version (entries queue.now count) file isn }
 {
     let found = queue::holder(queue, count, file, isn);
-    let Lookup::Held(at, e) = found else {
+    let Some((at, e)) = found else {
         return Version::Stored;
     };
     if !e.changed {

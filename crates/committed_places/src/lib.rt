@@ -15,8 +15,6 @@ ghost use Rattle.committed_places.specs.Places.{place_found};
 use committed::{Place, Version};
 use definition::{Definition, File};
 use nucleus::State;
-use records::Found;
-use shares::Verdict;
 
 fn no_place() -> Place
     ensures { result ≡ no_place }
@@ -91,7 +89,7 @@ fn place_found(
     ensures { result ≡ place_found d count file isn store.now queue.now images.now (place d file) }
 {
     let found = layout::place(d, file);
-    let Found::At(i) = found else {
+    let Some(i) = found else {
         return no_place();
     };
     let f = definition::file_at(d, i);
@@ -121,7 +119,7 @@ pub fn committed_place(
     ensures { result ≡ committed_place (nucleus state store.now queue.now images.now) file isn capacity }
 {
     let usable = usability::usable(state, capacity, store, queue, images);
-    if let Verdict::Refused(_) = usable {
+    if let Err(_) = usable {
         return no_place();
     }
     let d = state.definition;

@@ -1,17 +1,12 @@
 -- No call changes the definition table, whatever the state and the call.
 -- Assumes nothing.
-use Rattle.std.specs.Prelude.{ℕ, zero, suc, ◌+◌, max, ◌≡◌, Bool, ◌&&◌, List, [], ◌∷◌, eqb, ltb, length}
+use Rattle.std.specs.Prelude.{ℕ, zero, suc, ◌+◌, max, ◌≡◌, Bool, ◌&&◌, List, [], ◌∷◌, eqb, ltb, length, Option, Some, None}
 use Rattle.std.proofs.Math.Path.{refl}
 use Rattle.std.proofs.Common.{◌∙◌}
 use Rattle.std.proofs.Math.Bool.{true, false}
-use Rattle.std.proofs.Math.Option.{Option, none, some}
 use Rattle.lists.specs.Tests.{cond}
 use Rattle.definition.specs.declared.Definition.{Definition}
-use Rattle.records.specs.declared.Found.{Found}
-use Rattle.records.specs.declared.Found.TheVariants.{At, Nowhere}
 use Rattle.entries.specs.declared.Entry.{Entry}
-use Rattle.queue.specs.declared.Lookup.{Lookup}
-use Rattle.queue.specs.declared.Lookup.TheVariants.{Held, Free}
 use Rattle.removal.specs.declared.Removal.TheVariants.{One, Unchanged, All}
 use Rattle.nucleus.specs.Commands.{direct_commands, command_of, one_of, letting_go}
 use Rattle.nucleus.specs.Users.{is_due, started, with_overdue}
@@ -46,9 +41,9 @@ table_handed_on file isn n = go (first_in_line n.state.wait_queue file isn)
     given u true = refl
     given u false = refl
 
-    go : (l : Lookup) → table (handed_to l file isn n) ≡ table n
-    go (Held i w) = given w.user (ltb n.state.count (length n.queue))
-    go Free = refl
+    go : (l : Option (ℕ × Entry)) → table (handed_to l file isn n) ≡ table n
+    go (Some (i, w)) = given w.user (ltb n.state.count (length n.queue))
+    go None = refl
 
 table_handed : (es : List Entry) (n : Nucleus) → table (handed es n) ≡ table n
 table_handed [] n = refl
@@ -79,8 +74,8 @@ left_in (turned_away cause n) = n
 left_in (let_in c n) = n
 
 table_refused : (x : Option Response) (n m : Nucleus) (next : Admission) → table m ≡ table n → table (left_in next) ≡ table n → table (left_in (unless_refused x m next)) ≡ table n
-table_refused (some cause) n m next h g = h
-table_refused none n m next h g = g
+table_refused (Some cause) n m next h g = h
+table_refused None n m next h g = g
 
 module _ (c : Command) (call : Call) (n : Nucleus) where
   table_notified : table (notified c call n) ≡ table n
@@ -99,8 +94,8 @@ unfolding admitted_user
 table_user c call n = table_refused (first_cause (rows_after_clock c call n)) n (notified c call n) _ (table_notified c call n) (table_session c call _)
 
 table_command : (x : Option Command) (call : Call) (n : Nucleus) → table (left_in (admitted_command x call n)) ≡ table n
-table_command none call n = refl
-table_command (some c) call n = table_user c call (clocked call.clock (left_by c call n)) ∙ table_clocked call.clock (left_by c call n)
+table_command None call n = refl
+table_command (Some c) call n = table_user c call (clocked call.clock (left_by c call n)) ∙ table_clocked call.clock (left_by c call n)
 
 table_admitted : (served : List Command) (capacity : ℕ) (call : Call) (n : Nucleus) → table (left_in (admitted served capacity call n)) ≡ table n
 unfolding admitted
@@ -122,9 +117,9 @@ module _ (r : Request) (isn : ℕ) (n : Nucleus) where
   unfolding imaged
   table_imaged = go (holder_of r (held r isn n) isn) ∙ table_held
     where
-      go : (l : Lookup) → table (imaged_at r l isn (held r isn n)) ≡ table (held r isn n)
-      go (Held i e) = refl
-      go Free = refl
+      go : (l : Option (ℕ × Entry)) → table (imaged_at r l isn (held r isn n)) ≡ table (held r isn n)
+      go (Some (i, e)) = refl
+      go None = refl
 
   table_written : table (written r isn n) ≡ table n
   unfolding written
@@ -133,9 +128,9 @@ module _ (r : Request) (isn : ℕ) (n : Nucleus) where
   table_added : table (with_last r (file_place r n) isn (written r isn n)) ≡ table n
   table_added = go (file_place r n) ∙ table_written
     where
-      go : (x : Found) → table (with_last r x isn (written r isn n)) ≡ table (written r isn n)
-      go (At i) = refl
-      go Nowhere = refl
+      go : (x : Option ℕ) → table (with_last r x isn (written r isn n)) ≡ table (written r isn n)
+      go (Some i) = refl
+      go None = refl
 
   table_erased : table (erased r isn n) ≡ table n
   unfolding erased
@@ -171,8 +166,8 @@ unfolding perform
 table_performed r n = go (first_cause (rows_last r n))
   where
     go : (x : Option Response) → table (unless x (refusal r.buffer n) (effect r n)).nucleus ≡ table n
-    go (some cause) = refl
-    go none = table_effect r _ n r.command
+    go (Some cause) = refl
+    go None = table_effect r _ n r.command
 
 -- the line then
 table_lined : (r : Request) (before : Nucleus) (response : ℕ) (n : Nucleus) → table (lined r before response n) ≡ table n

@@ -8,7 +8,7 @@ ghost use Rattle.shares.specs.Outcomes.{erased_part, changed_done, changed_queue
 
 use definition::File;
 use nucleus::Call;
-use shares::{Done, Share, Verdict};
+use shares::{Done, Share};
 
 pub fn e1(
     call: Call,
@@ -27,7 +27,7 @@ pub fn e1(
     ensures images_after { images.new ≡ changed_images (e1_cause call share queue.old f part.old most) f part.old call.isn call share queue.old clock width images.old }
 {
     let verdict = change_rows::changeable(call, most, share, f, part, queue);
-    if let Verdict::Refused(cause) = verdict {
+    if let Err(cause) = verdict {
         return shares::refused(cause, share);
     }
     let held = keeping::keep_record(call, width, clock, share, f, part, queue, images, call.isn);

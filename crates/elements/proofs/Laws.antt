@@ -1,7 +1,7 @@
 -- Laws of a format buffer for callers: what a name finds; where the places lie; what valid names have, element by element; that the period alone
 -- names nothing; that no field comes twice; and how long the values are. One step of a loop over a buffer is in `Steps`.
 -- Assumes nothing.
-use Rattle.std.specs.Prelude.{ℕ, suc, ◌+◌, ◌-◌, ◌*◌, ◌≤◌, ◌<◌, refl, true, false, ◌&&◌, leb, get_or, drop}
+use Rattle.std.specs.Prelude.{ℕ, suc, ◌+◌, ◌-◌, ◌*◌, ◌≤◌, ◌<◌, refl, true, false, ◌&&◌, leb, get_or, drop, Option, Some, None}
 use native.Mathlib.Omega.{arith}
 use Rattle.std.proofs.Math.Path.{◌≡◌, ap}
 use Rattle.std.proofs.Common.{sym, length-drop}
@@ -21,23 +21,20 @@ use Rattle.elements.specs.Lists.{distinct_most}
 use Rattle.elements.proofs.Steps.{name_at, names_more, element_name, places_step}
 use Rattle.definition.specs.declared.Name.{Name}
 use Rattle.definition.specs.declared.File.{File}
-use Rattle.records.specs.declared.Found.{Found}
-use Rattle.records.specs.declared.Found.TheVariants.{At, Nowhere}
-use Rattle.elements.specs.declared.Needed.TheVariants.{Fits, TooLong}
 
 -- ---- a field by its name
 module _ (f : File) (n : Name) where
-  pub named_inside : (k : ℕ) → field_named f n ≡ At k → k < field_count f
+  pub named_inside : (k : ℕ) → field_named f n ≡ Some k → k < field_count f
   unfolding field_named
   named_inside k e = omega (arith, (first_found (has_name n) no_field (fields_of f) 0 k e).1, length-take (field_count f) f.fields)
 
-  pub named_found : (k : ℕ) → field_named f n ≡ At k → has_name n (field_at f k) ≡ true
+  pub named_found : (k : ℕ) → field_named f n ≡ Some k → has_name n (field_at f k) ≡ true
   unfolding field_named
   named_found k e =
       let z : k - 0 ≡ k = omega arith in
       rw (z, get_or-take (field_count f) f.fields k no_field (named_inside k e)) at (first_found (has_name n) no_field (fields_of f) 0 k e).2
 
-  pub named_nowhere : FileShape f → field_named f n ≡ Nowhere → (k : ℕ) → k < field_count f → has_name n (field_at f k) ≡ false
+  pub named_nowhere : FileShape f → field_named f n ≡ None → (k : ℕ) → k < field_count f → has_name n (field_at f k) ≡ false
   unfolding field_named
   named_nowhere s e k h =
       let all_there : field_count f ≤ length f.fields = omega (arith, s.places) in
@@ -50,9 +47,9 @@ module _ (f : File) where
   places_of_inside [] = tt
   places_of_inside (n ∷ ns) = go (field_named f n) refl (places_of_inside ns)
     where
-      go : (x : Found) → field_named f n ≡ x → Each (λ k. k < field_count f) (places_of f ns) → Each (λ k. k < field_count f) (before x (places_of f ns))
-      go (At k) e later = (named_inside f n k e, later)
-      go Nowhere e later = later
+      go : (x : Option ℕ) → field_named f n ≡ x → Each (λ k. k < field_count f) (places_of f ns) → Each (λ k. k < field_count f) (before x (places_of f ns))
+      go (Some k) e later = (named_inside f n k e, later)
+      go None e later = later
 
   pub places_inside : (format : List ℕ) → Each (λ k. k < field_count f) (places f format)
   unfolding places
@@ -65,16 +62,16 @@ module _ (f : File) where
       each_more [] h = tt
       each_more (k ∷ ks) h = (omega (arith, h.0), each_more ks h.1)
 
-  pub element_inside : (format : List ℕ) (at k : ℕ) → element f format at ≡ At k → k < field_count f
+  pub element_inside : (format : List ℕ) (at k : ℕ) → element f format at ≡ Some k → k < field_count f
   unfolding element
   element_inside format at = go (names (drop at format))
     where
-      go : (ns : List Name) (k : ℕ) → first_named f ns ≡ At k → k < field_count f
+      go : (ns : List Name) (k : ℕ) → first_named f ns ≡ Some k → k < field_count f
       go [] k e = absurd (let z : ◌≡◌ {A = ℕ} 0 1 = cc in omega arith)
       go (n ∷ ns) k e = named_inside f n k e
 
 -- ---- valid names: nothing but whole elements, and each names a field
-pub found_nowhere : (x : Found) → found x ≡ true → x ≡ Nowhere → ⊥
+pub found_nowhere : (x : Option ℕ) → found x ≡ true → x ≡ None → ⊥
 found_nowhere x t e = not_both false (rw e at t) refl
 
 form_whole : (l : List ℕ) → form l ≡ true → (1 ≤ length (names l)) × (length (names l) * 3 ≡ length l)
@@ -108,9 +105,9 @@ module _ (f : File) where
   places_of_all (n ∷ ns) h =
       go (field_named f n) (and_left (known f n) (all (known f) ns) h) (places_of_all ns (and_right (known f n) (all (known f) ns) h))
     where
-      go : (x : Found) → found x ≡ true → length (places_of f ns) ≡ length ns → length (before x (places_of f ns)) ≡ length (n ∷ ns)
-      go (At k) t later = ap suc later
-      go Nowhere t later = not_both false t refl
+      go : (x : Option ℕ) → found x ≡ true → length (places_of f ns) ≡ length ns → length (before x (places_of f ns)) ≡ length (n ∷ ns)
+      go (Some k) t later = ap suc later
+      go None t later = not_both false t refl
 
   pub whole_places : (l : List ℕ) → Whole f l → length (places f l) * 3 ≡ length l
   unfolding places
@@ -170,7 +167,7 @@ module _ (f : File) (format : List ℕ) (t : named_twice f format ≡ false) whe
   places_most = distinct_most (field_count f) (places f format) (places_inside f format) places_distinct
 
 -- nor in what is left of the buffer after an element, which does not name that element's field again
-module _ (f : File) (format : List ℕ) (i k : ℕ) (e : element f format i ≡ At k) (t : named_twice f (drop i format) ≡ false) where
+module _ (f : File) (format : List ℕ) (i k : ℕ) (e : element f format i ≡ Some k) (t : named_twice f (drop i format) ≡ false) where
   rest_distinct : (not (any (eqb k) (places f (drop (i + 3) format))) && distinct eqb (places f (drop (i + 3) format))) ≡ true
   rest_distinct = rw (places_step f format i, e) at (places_distinct f (drop i format) t)
 
@@ -186,7 +183,7 @@ pub needed_total : (f : File) (format : List ℕ) → length_needed f format ≡
 unfolding length_needed
 needed_total f format = refl
 
-pub needed_fits : (f : File) (format : List ℕ) (room n : ℕ) → needed_within f format room ≡ Fits n → (n ≡ length_needed f format) × (n ≤ room)
+pub needed_fits : (f : File) (format : List ℕ) (room n : ℕ) → needed_within f format room ≡ Some n → (n ≡ length_needed f format) × (n ≤ room)
 unfolding needed_within
 needed_fits f format room n e = go (outcome (leb (length_needed f format) room))
   where
@@ -196,7 +193,7 @@ needed_fits f format room n e = go (outcome (leb (length_needed f format) room))
         (sym same, omega (arith, leb-true (length_needed f format) room t))
     go (fails t) = absurd (let z : ◌≡◌ {A = ℕ} 0 1 = cc (rw t at e) in omega arith)
 
-pub needed_too_long : (f : File) (format : List ℕ) (room : ℕ) → needed_within f format room ≡ TooLong → room < length_needed f format
+pub needed_too_long : (f : File) (format : List ℕ) (room : ℕ) → needed_within f format room ≡ None → room < length_needed f format
 unfolding needed_within
 needed_too_long f format room e = go (outcome (leb (length_needed f format) room))
   where

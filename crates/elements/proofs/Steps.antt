@@ -1,7 +1,7 @@
 -- One element of a format buffer after the other: what the buffer says is what its first element says, and what is left of it (`drop 3`) says.
 -- And a buffer of one byte.
 -- Assumes nothing.
-use Rattle.std.specs.Prelude.{ℕ, ◌+◌, ◌-◌, ◌≤◌, ◌<◌, ◌≡◌, false, ◌&&◌, eqb, get_or, drop}
+use Rattle.std.specs.Prelude.{ℕ, ◌+◌, ◌-◌, ◌≤◌, ◌<◌, ◌≡◌, false, ◌&&◌, eqb, get_or, drop, Option, Some, None}
 use native.Mathlib.Omega.{arith}
 use Rattle.std.proofs.Math.Path.{refl}
 use Rattle.std.proofs.Common.{ap, ◌∙◌, length-drop, drop-drop, get_or-drop}
@@ -12,8 +12,6 @@ use Rattle.lists.specs.Folds.{total}
 use Rattle.elements.specs.Elements.{comma, period, names, form, period_alone, field_named, first_named, element, before, places_of, places, length_at, length_of, length_needed}
 use Rattle.definition.specs.declared.Name.{Name}
 use Rattle.definition.specs.declared.File.{File}
-use Rattle.records.specs.declared.Found.{Found}
-use Rattle.records.specs.declared.Found.TheVariants.{At, Nowhere}
 
 -- ---- the first element of some bytes
 names_next : (l : List ℕ) → names (drop 3 l) ≡ drop 1 (names l)
@@ -95,7 +93,7 @@ module _ (f : File) (format : List ℕ) (i : ℕ) where
   unfolding element
   element_name h = rw (names_more format i h)
 
-  pub element_none : length format - i < 3 → element f format i ≡ Nowhere
+  pub element_none : length format - i < 3 → element f format i ≡ None
   unfolding element
   element_none h = rw (names_short format i h)
 
@@ -111,9 +109,9 @@ module _ (f : File) (format : List ℕ) (i : ℕ) where
   unfolding length_needed
   needed_step = rw places_step (go (element f format i))
     where
-      go : (x : Found) → total (length_at f) (before x (places f (drop (i + 3) format))) ≡ length_of f x + total (length_at f) (places f (drop (i + 3) format))
-      go (At k) = refl
-      go Nowhere = omega arith
+      go : (x : Option ℕ) → total (length_at f) (before x (places f (drop (i + 3) format))) ≡ length_of f x + total (length_at f) (places f (drop (i + 3) format))
+      go (Some k) = refl
+      go None = omega arith
 
   -- past the end
   pub places_end : length format ≤ i → places f (drop i format) ≡ []

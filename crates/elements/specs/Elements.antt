@@ -1,7 +1,7 @@
 -- A format buffer (document 01, 'Hold, change, end'): "It is names divided by commas, ended by a period, nothing after, at least one name:
 -- `AA,AB.` The record buffer has the values one after another. Reading may name a field twice." Document 02, No. 5: "The format buffer `.` alone
 -- now means no fields".
-use Rattle.std.specs.Prelude.{ℕ, Bool, true, false, not, ◌&&◌, ◌||◌, List, [], ◌∷◌, eqb, leb, drop}
+use Rattle.std.specs.Prelude.{ℕ, Bool, true, false, not, ◌&&◌, ◌||◌, List, [], ◌∷◌, eqb, leb, drop, Option, Some, None}
 use Rattle.lists.specs.Tests.{cond, eqbs}
 use Rattle.lists.specs.Folds.{all, total, distinct}
 use Rattle.definition.specs.Table.{field_at, fields_of, same_name}
@@ -10,10 +10,6 @@ use Rattle.elements.specs.Search.{first_place}
 use Rattle.definition.specs.declared.Name.{Name}
 use Rattle.definition.specs.declared.Field.{Field}
 use Rattle.definition.specs.declared.File.{File}
-use Rattle.records.specs.declared.Found.{Found}
-use Rattle.records.specs.declared.Found.TheVariants.{At, Nowhere}
-use Rattle.elements.specs.declared.Needed.{Needed}
-use Rattle.elements.specs.declared.Needed.TheVariants.{Fits, TooLong}
 
 -- ---- the bytes of a format buffer
 abbrev pub comma : ℕ
@@ -46,12 +42,12 @@ abbrev pub has_name : Name → Field → Bool
 has_name n g = same_name g.name n
 
 -- a field by its name, among those in use. (In a valid file no two have one name)
-unfoldable pub field_named : File → Name → Found
+unfoldable pub field_named : File → Name → Option ℕ
 field_named f n = first_place (has_name n) (fields_of f) 0
 
-abbrev pub found : Found → Bool
-found (At k) = true
-found Nowhere = false
+abbrev pub found : Option ℕ → Bool
+found (Some k) = true
+found None = false
 
 abbrev pub known : File → Name → Bool
 known f n = found (field_named f n)
@@ -65,18 +61,18 @@ unfoldable pub format_valid : File → List ℕ → Bool
 format_valid f format = period_alone format || names_valid f format
 
 -- the field of the first of the names
-abbrev pub first_named : File → List Name → Found
-first_named f [] = Nowhere
+abbrev pub first_named : File → List Name → Option ℕ
+first_named f [] = None
 first_named f (n ∷ ns) = field_named f n
 
 -- the field that the element at a byte names: nowhere where no whole element begins there
-unfoldable pub element : File → List ℕ → ℕ → Found
+unfoldable pub element : File → List ℕ → ℕ → Option ℕ
 element f format at = first_named f (names (drop at format))
 
 -- a place before others, where there is one
-abbrev pub before : Found → List ℕ → List ℕ
-before (At k) ks = k ∷ ks
-before Nowhere ks = ks
+abbrev pub before : Option ℕ → List ℕ → List ℕ
+before (Some k) ks = k ∷ ks
+before None ks = ks
 
 abbrev pub places_of : File → List Name → List ℕ
 places_of f [] = []
@@ -95,14 +91,14 @@ abbrev pub length_at : File → ℕ → ℕ
 length_at f k = field_length (field_at f k)
 
 -- the length of a field that was found, 0 where none was
-abbrev pub length_of : File → Found → ℕ
-length_of f (At k) = length_at f k
-length_of f Nowhere = 0
+abbrev pub length_of : File → Option ℕ → ℕ
+length_of f (Some k) = length_at f k
+length_of f None = 0
 
 -- the lengths of the named fields together, each as often as it is named
 unfoldable pub length_needed : File → List ℕ → ℕ
 length_needed f format = total (length_at f) (places f format)
 
 -- the row of response 53: "record buffer shorter than the named fields", where `room` is the record buffer's length
-unfoldable pub needed_within : File → List ℕ → ℕ → Needed
-needed_within f format room = cond (leb (length_needed f format) room) (Fits (length_needed f format)) TooLong
+unfoldable pub needed_within : File → List ℕ → ℕ → Option ℕ
+needed_within f format room = cond (leb (length_needed f format) room) (Some (length_needed f format)) None

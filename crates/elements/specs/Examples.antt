@@ -1,13 +1,11 @@
 -- Worked examples: the definitions computed on the file of document 01's table, "RC unique, HH", of lengths 1 and 2; checked by one law a table.
 -- Assumes nothing.
-use Rattle.std.specs.Prelude.{ℕ, ◌≡◌, refl, Bool, true, false, List, [], ◌∷◌, map, set}
+use Rattle.std.specs.Prelude.{ℕ, ◌≡◌, refl, Bool, true, false, List, [], ◌∷◌, map, set, Some, None}
 use Rattle.definition.specs.Table.{no_file}
 use Rattle.elements.specs.Elements.{field_named, format_valid, element, places, named_twice, length_needed, needed_within}
 use Rattle.definition.specs.declared.Format.TheVariants.{Alphanumeric}
 use Rattle.definition.specs.declared.FieldOption.TheVariants.{Plain, Unique}
 use Rattle.definition.specs.declared.File.{File}
-use Rattle.records.specs.declared.Found.TheVariants.{At, Nowhere}
-use Rattle.elements.specs.declared.Needed.TheVariants.{Fits, TooLong}
 
 paper : File
 paper = record {
@@ -75,11 +73,11 @@ rows_right = refl
 rc_hh : List ℕ
 rc_hh = 82 ∷ 67 ∷ 44 ∷ 72 ∷ 72 ∷ 46 ∷ []
 
-at_right : map (element paper rc_hh) (0 ∷ 1 ∷ 3 ∷ 4 ∷ 6 ∷ []) ≡ At 0 ∷ Nowhere ∷ At 1 ∷ Nowhere ∷ Nowhere ∷ []
+at_right : map (element paper rc_hh) (0 ∷ 1 ∷ 3 ∷ 4 ∷ 6 ∷ []) ≡ Some 0 ∷ None ∷ Some 1 ∷ None ∷ None ∷ []
 unfolding paper rc_hh field_named element
 at_right = refl
 
 -- and what it needs of record buffers of 2, 3 and 4 bytes
-room_right : map (needed_within paper rc_hh) (2 ∷ 3 ∷ 4 ∷ []) ≡ TooLong ∷ Fits 3 ∷ Fits 3 ∷ []
+room_right : map (needed_within paper rc_hh) (2 ∷ 3 ∷ 4 ∷ []) ≡ None ∷ Some 3 ∷ Some 3 ∷ []
 unfolding paper rc_hh field_named places length_needed needed_within
 room_right = refl

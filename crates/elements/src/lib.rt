@@ -7,7 +7,6 @@ ghost use Rattle.std.specs.Prelude.{◌≡◌};
 ghost use Rattle.elements.specs.Elements.{form, period_alone, field_named, names_valid, format_valid, element, named_twice, length_of, needed_within};
 
 use definition::{File, MAX_FIELDS, Name};
-use records::Found;
 
 const COMMA: u8 = b',';
 
@@ -16,15 +15,8 @@ const PERIOD: u8 = b'.';
 // The bytes of an element.
 pub const ELEMENT: usize = 3;
 
-// The bytes that the named fields take together, where they fit into a given room.
-#[derive(Clone, Copy)]
-pub enum Needed {
-    Fits(usize),
-    TooLong,
-}
-
 // The place of the field with the name, among those in use.
-fn field_named(f: File, name: Name) -> Found
+fn field_named(f: File, name: Name) -> Option<usize>
     ensures { result ≡ field_named f name }
 {
     let n = definition::field_count(f);
@@ -32,22 +24,22 @@ fn field_named(f: File, name: Name) -> Found
     while i < n {
         let g = definition::field_at(f, i);
         if definition::same_name(g.name, name) {
-            return Found::At(i);
+            return Some(i);
         }
         i += 1;
     }
-    Found::Nowhere
+    None
 }
 
 // The place of the field that the element at a byte names. Callers step through a buffer with it, from 0 by `ELEMENT`.
-pub fn element(f: File, format: &[u8], at: usize) -> Found
+pub fn element(f: File, format: &[u8], at: usize) -> Option<usize>
     ensures { result ≡ element f format.now at }
 {
     if format.len() <= at {
-        return Found::Nowhere;
+        return None;
     }
     if format.len() - at < ELEMENT {
-        return Found::Nowhere;
+        return None;
     }
     let name = Name {
         first: format[at],
@@ -87,7 +79,7 @@ fn names_valid(f: File, format: &[u8]) -> bool
     let mut i = 0;
     while ELEMENT <= n - i {
         let found = element(f, format, i);
-        if let Found::Nowhere = found {
+        if let None = found {
             return false;
         }
         i += ELEMENT;
@@ -123,7 +115,7 @@ pub fn named_twice(f: File, format: &[u8]) -> bool
     let mut i = 0;
     while i < format.len() {
         let found = element(f, format, i);
-        if let Found::At(k) = found {
+        if let Some(k) = found {
             if seen[k] {
                 return true;
             }
@@ -135,10 +127,10 @@ pub fn named_twice(f: File, format: &[u8]) -> bool
 }
 
 // The length of the field at a place that was found; 0 where none was.
-fn length_of(f: File, found: Found) -> usize
+fn length_of(f: File, found: Option<usize>) -> usize
     ensures { result ≡ length_of f found }
 {
-    let Found::At(k) = found else {
+    let Some(k) = found else {
         return 0;
     };
     records::field_length(f, k)
@@ -146,7 +138,7 @@ fn length_of(f: File, found: Found) -> usize
 
 // The bytes that the values of the named fields take, one after another, where they fit into the room. The sum never passes the room, so it
 // cannot overflow however often a field is named.
-pub fn needed_within(f: File, format: &[u8], room: usize) -> Needed
+pub fn needed_within(f: File, format: &[u8], room: usize) -> Option<usize>
     ensures { result ≡ needed_within f format.now room }
 {
     let mut sum: usize = 0;
@@ -155,10 +147,10 @@ pub fn needed_within(f: File, format: &[u8], room: usize) -> Needed
         let found = element(f, format, i);
         let length = length_of(f, found);
         if room - sum < length {
-            return Needed::TooLong;
+            return None;
         }
         sum += length;
         i += ELEMENT;
     }
-    Needed::Fits(sum)
+    Some(sum)
 }

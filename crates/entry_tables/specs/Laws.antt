@@ -1,6 +1,6 @@
 -- An entry judged by the table is judged as by the files, where the definition is valid.
 -- Assumes nothing.
-use Rattle.std.specs.Prelude.{ℕ, zero, suc, ◌-◌, ◌≤◌, ◌<◌, ◌≡◌, refl, Bool, true, false, List, [], ◌∷◌, ltb, length, get_or}
+use Rattle.std.specs.Prelude.{ℕ, zero, suc, ◌-◌, ◌≤◌, ◌<◌, ◌≡◌, refl, Bool, true, false, List, [], ◌∷◌, ltb, length, get_or, Option, Some, None}
 use Rattle.std.proofs.Common.{suc-le-suc, not-suc-le-zero, le_of_suc-le-suc, arith, sym, ap, ◌∙◌, get_or-take, length-take-le, eq-eqb, ne_eqb, ltb-true, ltb-false}
 use Rattle.std.proofs.Math.ListN.{get_or-eq_default}
 use Rattle.lists.specs.Tests.{Outcome, holds, fails, outcome, within, within_inside, and-false}
@@ -9,8 +9,6 @@ use Rattle.definition.specs.Table.{beyond, file_at, file_count, files_of}
 use Rattle.definition.specs.Shape.{DefinitionShape}
 use Rattle.definition.specs.declared.File.{File}
 use Rattle.definition.specs.declared.Definition.{Definition}
-use Rattle.records.specs.declared.Found.{Found}
-use Rattle.records.specs.declared.Found.TheVariants.{At, Nowhere}
 use Rattle.layout.specs.Layout.{place, isn_found}
 use Rattle.layout.specs.Laws.{place_found, place_nowhere}
 use Rattle.validity.specs.Validity.{valid}
@@ -47,7 +45,7 @@ module _ (d : Definition) (s : DefinitionShape d) (v : valid d ≡ true) where
   file_of i h = get_or-take (file_count d) d.files i beyond h
 
   -- a number that no file has, also one past the table
-  none_highest : (n : ℕ) → place d n ≡ Nowhere → get_or (highest_isns d) n 0 ≡ 0
+  none_highest : (n : ℕ) → place d n ≡ None → get_or (highest_isns d) n 0 ≡ 0
   none_highest n e = go (outcome (ltb n 17))
     where
       none : (k : ℕ) → k < length (files_of d) → Has (files_of d) n k → ⊥
@@ -59,7 +57,7 @@ module _ (d : Definition) (s : DefinitionShape d) (v : valid d ≡ true) where
       go (holds t) = highest_at (files_of d) n (ltb-true n 17 t) ∙ highest_nowhere (files_of d) n none
       go (fails t) = get_or-eq_default (highest_isns d) 0 (omega (arith, length_highest (files_of d), ltb-false n 17 t))
 
-  place_highest : (n i : ℕ) → place d n ≡ At i → get_or (highest_isns d) n 0 ≡ (file_at d i).max_isn
+  place_highest : (n i : ℕ) → place d n ≡ Some i → get_or (highest_isns d) n 0 ≡ (file_at d i).max_isn
   place_highest n i e =
       let found = place_found d s n i e in
       let small : n < 17 = omega (arith, (valid_at d s v i found.0).number_most, found.1) in
@@ -71,9 +69,9 @@ module _ (d : Definition) (s : DefinitionShape d) (v : valid d ≡ true) where
   isn_judged : (n isn : ℕ) → within 1 (get_or (highest_isns d) n 0) isn ≡ isn_found d (place d n) isn
   isn_judged n isn = go (place d n) refl
     where
-      go : (r : Found) → place d n ≡ r → within 1 (get_or (highest_isns d) n 0) isn ≡ isn_found d r isn
-      go (At i) e = rw (place_highest n i e)
-      go Nowhere e = rw (none_highest n e) (within_nothing isn)
+      go : (r : Option ℕ) → place d n ≡ r → within 1 (get_or (highest_isns d) n 0) isn ≡ isn_found d r isn
+      go (Some i) e = rw (place_highest n i e)
+      go None e = rw (none_highest n e) (within_nothing isn)
 
 -- ---- entries
 all_agree : {A : Type 0} (p r : A → Bool) → ((x : A) → p x ≡ r x) → (l : List A) → all p l ≡ all r l

@@ -1,6 +1,6 @@
 -- Values between a record and a record buffer, by the names of a format buffer (document 01: "The record buffer has the values one after
 -- another"). A place is a field's place in its file.
-use Rattle.std.specs.Prelude.{ℕ, Bool, true, ◌&&◌, List, [], ◌∷◌, ◌++◌, leb, length, take, drop}
+use Rattle.std.specs.Prelude.{ℕ, Bool, true, ◌&&◌, List, [], ◌∷◌, ◌++◌, leb, length, take, drop, Option, Some, None}
 use Rattle.std.proofs.lemmas.List.Edits.{sets}
 use Rattle.lists.specs.Tests.{cond}
 use Rattle.definition.specs.Table.{field_at}
@@ -8,8 +8,6 @@ use Rattle.records.specs.Records.{field_length, field_offset, record_length}
 use Rattle.digits.specs.Digits.{allowed}
 use Rattle.values.specs.Values.{stored}
 use Rattle.elements.specs.Elements.{places, length_needed}
-use Rattle.records.specs.declared.Found.{Found}
-use Rattle.records.specs.declared.Found.TheVariants.{At, Nowhere}
 use Rattle.fields.specs.declared.Span.{Span}
 use Rattle.definition.specs.declared.Format.TheVariants.{Alphanumeric}
 use Rattle.definition.specs.declared.File.{File}
@@ -26,9 +24,9 @@ abbrev pub behind : File → ℕ → List ℕ → List ℕ
 behind f k values = drop (field_length (field_at f k)) values
 
 -- ---- where a field that was found lies in its record, and what lies there; no bytes, at the front, where none was found
-abbrev pub span_of : File → Found → Span
-span_of f (At k) = record { start = field_offset f k; length = field_length (field_at f k); format = (field_at f k).format }
-span_of f Nowhere = record { start = 0; length = 0; format = Alphanumeric }
+abbrev pub span_of : File → Option ℕ → Span
+span_of f (Some k) = record { start = field_offset f k; length = field_length (field_at f k); format = (field_at f k).format }
+span_of f None = record { start = 0; length = 0; format = Alphanumeric }
 
 abbrev pub span_bytes : Span → List ℕ → List ℕ
 span_bytes s content = take s.length (drop s.start content)

@@ -1,7 +1,7 @@
 -- One element of a format buffer after the other: what is read, written and allowed from the byte i on is what the element at i says, and what is
 -- left of the buffer says of what is left of the values.
 -- Assumes nothing.
-use Rattle.std.specs.Prelude.{ℕ, ◌+◌, ◌≤◌, ◌<◌, ◌≡◌, refl, ◌&&◌, List, [], ◌++◌, length, drop}
+use Rattle.std.specs.Prelude.{ℕ, ◌+◌, ◌≤◌, ◌<◌, ◌≡◌, refl, ◌&&◌, List, [], ◌++◌, length, drop, Option, Some, None}
 use Rattle.std.proofs.Common.{arith, drop-drop}
 use Rattle.definition.specs.Table.{field_count}
 use Rattle.definition.specs.Shape.{FileShape}
@@ -16,17 +16,15 @@ use Rattle.lists.specs.Parts.{length_piece}
 use Rattle.fields.specs.Fields.{span_of, span_bytes, span_written, span_allowed, read_out, write_in, allowed_in}
 use Rattle.fields.specs.declared.Span.{Span}
 use Rattle.definition.specs.declared.File.{File}
-use Rattle.records.specs.declared.Found.{Found}
-use Rattle.records.specs.declared.Found.TheVariants.{At, Nowhere}
 
 -- a field that was found lies within the record
-span_inside : (f : File) → FileShape f → (x : Found) → ((k : ℕ) → x ≡ At k → k < field_count f) → (span_of f x).start + (span_of f x).length ≤ record_length f
-span_inside f s (At k) h = field_within f s k (h k refl)
-span_inside f s Nowhere h = omega arith
+span_inside : (f : File) → FileShape f → (x : Option ℕ) → ((k : ℕ) → x ≡ Some k → k < field_count f) → (span_of f x).start + (span_of f x).length ≤ record_length f
+span_inside f s (Some k) h = field_within f s k (h k refl)
+span_inside f s None h = omega arith
 
-span_length : (f : File) (x : Found) → length_of f x ≡ (span_of f x).length
-span_length f (At k) = refl
-span_length f Nowhere = refl
+span_length : (f : File) (x : Option ℕ) → length_of f x ≡ (span_of f x).length
+span_length f (Some k) = refl
+span_length f None = refl
 
 module _ (f : File) (format : List ℕ) (i : ℕ) where
   -- the span of the element at i
@@ -46,21 +44,21 @@ module _ (f : File) (format : List ℕ) (i : ℕ) where
   pub read_turn : (content : List ℕ) → read_out f (places f (drop i format)) content ≡ span_bytes turn_span content ++ read_out f (places f (drop (i + 3) format)) content
   read_turn content = rw (places_step f format i) (go (element f format i))
     where
-      go : (x : Found) → read_out f (before x (places f (drop (i + 3) format))) content ≡ span_bytes (span_of f x) content ++ read_out f (places f (drop (i + 3) format)) content
-      go (At k) = refl
-      go Nowhere = refl
+      go : (x : Option ℕ) → read_out f (before x (places f (drop (i + 3) format))) content ≡ span_bytes (span_of f x) content ++ read_out f (places f (drop (i + 3) format)) content
+      go (Some k) = refl
+      go None = refl
 
   module _ (values : List ℕ) (at : ℕ) where
     pub write_turn : (content : List ℕ) → write_in f (places f (drop i format)) (drop at values) content ≡ write_in f (places f (drop (i + 3) format)) (drop (at + turn_span.length) values) (span_written turn_span (drop at values) content)
     write_turn content = rw (places_step f format i, ← (drop-drop turn_span.length at values)) (go (element f format i))
       where
-        go : (x : Found) → write_in f (before x (places f (drop (i + 3) format))) (drop at values) content ≡ write_in f (places f (drop (i + 3) format)) (drop (span_of f x).length (drop at values)) (span_written (span_of f x) (drop at values) content)
-        go (At k) = refl
-        go Nowhere = rw (plain_stored [])
+        go : (x : Option ℕ) → write_in f (before x (places f (drop (i + 3) format))) (drop at values) content ≡ write_in f (places f (drop (i + 3) format)) (drop (span_of f x).length (drop at values)) (span_written (span_of f x) (drop at values) content)
+        go (Some k) = refl
+        go None = rw (plain_stored [])
 
     pub allowed_turn : allowed_in f (places f (drop i format)) (drop at values) ≡ (span_allowed turn_span (drop at values) && allowed_in f (places f (drop (i + 3) format)) (drop (at + turn_span.length) values))
     allowed_turn = rw (places_step f format i, ← (drop-drop turn_span.length at values)) (go (element f format i))
       where
-        go : (x : Found) → allowed_in f (before x (places f (drop (i + 3) format))) (drop at values) ≡ (span_allowed (span_of f x) (drop at values) && allowed_in f (places f (drop (i + 3) format)) (drop (span_of f x).length (drop at values)))
-        go (At k) = refl
-        go Nowhere = rw (plain_allowed [])
+        go : (x : Option ℕ) → allowed_in f (before x (places f (drop (i + 3) format))) (drop at values) ≡ (span_allowed (span_of f x) (drop at values) && allowed_in f (places f (drop (i + 3) format)) (drop (span_of f x).length (drop at values)))
+        go (Some k) = refl
+        go None = rw (plain_allowed [])

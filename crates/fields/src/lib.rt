@@ -9,8 +9,7 @@ ghost use Rattle.elements.specs.Elements.{element, length_needed};
 ghost use Rattle.fields.specs.Fields.{span_of, span_bytes, span_written, span_allowed, fits, read_fields, write_fields, values_allowed};
 
 use definition::{File, Format};
-use elements::{ELEMENT, Needed};
-use records::Found;
+use elements::ELEMENT;
 
 // Where a field lies in its record, and what lies there.
 #[derive(Clone, Copy)]
@@ -21,10 +20,10 @@ struct Span {
 }
 
 // The span of a field that was found. No bytes, at the front, where none was: reading and writing them does nothing.
-fn span_of(f: File, found: Found) -> Span
+fn span_of(f: File, found: Option<usize>) -> Span
     ensures { result ≡ span_of f found }
 {
-    let Found::At(k) = found else {
+    let Some(k) = found else {
         return Span {
             start: 0,
             length: 0,
@@ -97,7 +96,7 @@ pub fn read_fields(f: File, format: &[u8], content: &[u8], buffer: &mut [u8]) ->
     ensures buffer_after { buffer.new ≡ read_fields f format.now content.now buffer.old }
 {
     let needed = elements::needed_within(f, format, buffer.len());
-    let Needed::Fits(_) = needed else {
+    let Some(_) = needed else {
         return 0;
     };
     if content.len() < records::record_length(f) {
@@ -120,7 +119,7 @@ pub fn write_fields(f: File, format: &[u8], values: &[u8], content: &mut [u8])
     ensures { content.new ≡ write_fields f format.now values.now content.old }
 {
     let needed = elements::needed_within(f, format, values.len());
-    let Needed::Fits(_) = needed else {
+    let Some(_) = needed else {
         return;
     };
     if content.len() < records::record_length(f) {
@@ -141,7 +140,7 @@ pub fn values_allowed(f: File, format: &[u8], values: &[u8]) -> bool
     ensures { result ≡ values_allowed f format.now values.now }
 {
     let needed = elements::needed_within(f, format, values.len());
-    let Needed::Fits(_) = needed else {
+    let Some(_) = needed else {
         return false;
     };
     let mut i = 0;

@@ -9,54 +9,52 @@ ghost use Rattle.shares.specs.Chains.{row_scratch, rows_read, rows_brought};
 ghost use Rattle.formats.specs.Formats.{rows_judged};
 
 use definition::{File, MAX_RECORD_LENGTH};
-use elements::Needed;
 use nucleus::Response;
-use shares::Verdict;
 
 // 41, 44, 53 and 55; of them 44 and 55 where the record buffer brings values.
-fn judged(f: File, brings: bool, format: &[u8], buffer: &[u8]) -> Verdict
+fn judged(f: File, brings: bool, format: &[u8], buffer: &[u8]) -> Result<(), Response>
     ensures { result ≡ verdict (first_cause (rows_judged brings f format.now buffer.now)) }
 {
     if !elements::format_valid(f, format) {
-        return Verdict::Refused(Response::FormatInvalid);
+        return Err(Response::FormatInvalid);
     }
     if brings {
         if elements::named_twice(f, format) {
-            return Verdict::Refused(Response::FieldTwice);
+            return Err(Response::FieldTwice);
         }
     }
     let needed = elements::needed_within(f, format, buffer.len());
-    let Needed::Fits(_) = needed else {
-        return Verdict::Refused(Response::RecordLength);
+    let Some(_) = needed else {
+        return Err(Response::RecordLength);
     };
     if brings {
         if !fields::values_allowed(f, format, buffer) {
-            return Verdict::Refused(Response::ValueInvalid);
+            return Err(Response::ValueInvalid);
         }
     }
-    Verdict::Passed
+    Ok(())
 }
 
 // Whether the named fields can be read into the record buffer (L1, L4).
-pub fn readable(f: File, format: &[u8], buffer: &[u8]) -> Verdict
+pub fn readable(f: File, format: &[u8], buffer: &[u8]) -> Result<(), Response>
     ensures { result ≡ verdict (first_cause (rows_read f format.now buffer.now)) }
 {
     judged(f, false, format, buffer)
 }
 
 // Whether the record buffer brings values for the named fields (A1, N1, N2).
-pub fn brought(f: File, format: &[u8], buffer: &[u8]) -> Verdict
+pub fn brought(f: File, format: &[u8], buffer: &[u8]) -> Result<(), Response>
     ensures { result ≡ verdict (first_cause (rows_brought f format.now buffer.now)) }
 {
     judged(f, true, format, buffer)
 }
 
 // The same of a record that is to be made, before them that it has its place; of a file of a valid table each has.
-pub fn storable(f: File, format: &[u8], buffer: &[u8]) -> Verdict
+pub fn storable(f: File, format: &[u8], buffer: &[u8]) -> Result<(), Response>
     ensures { result ≡ verdict (first_cause (row_scratch f ∷ rows_brought f format.now buffer.now)) }
 {
     if MAX_RECORD_LENGTH < records::record_length(f) {
-        return Verdict::Refused(Response::StateInvalid);
+        return Err(Response::StateInvalid);
     }
     brought(f, format, buffer)
 }

@@ -1,9 +1,8 @@
 -- Each operation of the abstract machine, done by the functions of `queue`, `images`, `hold` and `store` on a well made state.
 -- Assumes nothing.
-use Rattle.std.specs.Prelude.{ℕ, ◌+◌, ◌<◌, ◌≡◌, Bool, true, false, cond, List, [], ◌∷◌, ◌++◌, map, length}
+use Rattle.std.specs.Prelude.{ℕ, ◌+◌, ◌<◌, ◌≡◌, Bool, true, false, cond, List, [], ◌∷◌, ◌++◌, map, length, Some, None}
 use Rattle.std.proofs.Math.Path.{sym, ap}
 use Rattle.std.proofs.Common.{◌∙◌, arith}
-use Rattle.std.proofs.Math.Option.{none, some}
 use Rattle.lists.specs.Tests.{Outcome, holds, fails, outcome, eqb_self}
 use Rattle.lists.specs.Folds.{any}
 use Rattle.definition.specs.Shape.{DefinitionShape}
@@ -14,7 +13,6 @@ use Rattle.queue.specs.Queue.{holder, append}
 use Rattle.entries.specs.Laws.{Shape, length_entries}
 use Rattle.queue.specs.Laws.{entries_append, holder_last}
 use Rattle.entries.specs.declared.Entry.{Entry}
-use Rattle.queue.specs.declared.Lookup.TheVariants.{Held, Free}
 use Rattle.removal.specs.Removal.{remove_queue, remove_images, remove_count}
 use Rattle.removal.specs.declared.Removal.{Removal}
 use Rattle.removal.specs.declared.Removal.TheVariants.{One, Unchanged, All}
@@ -45,18 +43,18 @@ module _ (d : Definition) (s : DefinitionShape d) (U : Updates) (lent : List ℕ
       (remove_count words images count (image_length d) which)
 
   -- ---- a hold: of what nobody holds, and of what is held
-  pub act_hold : (e : Entry) → Shape e → e.changed ≡ false → count < capacity → holder (entries words count) e.file e.isn ≡ Free
+  pub act_hold : (e : Entry) → Shape e → e.changed ≡ false → count < capacity → holder (entries words count) e.file e.isn ≡ None
       → act (ground d U lent) (hold e.user (key_of e)) state ≡ machine d U lent store (append words count e) images (count + 1)
   unfolding act
   act_hold e shape new more free = sym (ap with_queue (queue_hold d words images count e shape new (omega (arith, m.queue_room)) free))
 
-  pub act_held : (u file isn i : ℕ) (e : Entry) → isn < isn_bound → holder (entries words count) file isn ≡ Held i e
+  pub act_held : (u file isn i : ℕ) (e : Entry) → isn < isn_bound → holder (entries words count) file isn ≡ Some (i, e)
       → act (ground d U lent) (hold u (key file isn)) state ≡ state
   unfolding act
   act_held u file isn i e small found = ap with_queue (queue_held d words images count u file isn i e small found)
 
   -- ---- a release, of one unchanged entry and of all of a user
-  pub act_release : (file isn i : ℕ) (e : Entry) → isn < isn_bound → holder (entries words count) file isn ≡ Held i e → e.changed ≡ false
+  pub act_release : (file isn i : ℕ) (e : Entry) → isn < isn_bound → holder (entries words count) file isn ≡ Some (i, e) → e.changed ≡ false
       → act (ground d U lent) (release e.user (key file isn)) state ≡ after store (One file isn)
   unfolding act
   act_release file isn i e small found new = sym (ap with_queue (queue_release d capacity store words images count m file isn i e small found new))
@@ -78,8 +76,8 @@ module _ (d : Definition) (s : DefinitionShape d) (U : Updates) (lent : List ℕ
   }
 
   -- ---- a change of a record that is held: the slot that stands there is kept by the first one, and the new one is put
-  pub act_change : (u file isn at : ℕ) (e : Entry) → isn < isn_bound → holder (entries words count) file isn ≡ Held at e
-      → (existed : Bool) (content : List ℕ) → get d store (key file isn) ≡ cond existed (some content) none → (c : U.Update)
+  pub act_change : (u file isn at : ℕ) (e : Entry) → isn < isn_bound → holder (entries words count) file isn ≡ Some (at, e)
+      → (existed : Bool) (content : List ℕ) → get d store (key file isn) ≡ cond existed (Some content) None → (c : U.Update)
       → act (ground d U lent) (change u (key file isn) c) state
       ≡ machine d U lent (put d store (key file isn) (U.apply (key file isn) c (get d store (key file isn))))
       (first_change_queue words at existed) (first_change_images words images (image_length d) at existed content) count
@@ -107,7 +105,7 @@ change_holds G u k c m = λ j. record {
 }
 
 -- and the new entry is found at the end
-pub holder_new : (words : List ℕ) (count : ℕ) (e : Entry) → Shape e → count < length words → holder (entries words count) e.file e.isn ≡ Free
-    → holder (entries (append words count e) (count + 1)) e.file e.isn ≡ Held count e
+pub holder_new : (words : List ℕ) (count : ℕ) (e : Entry) → Shape e → count < length words → holder (entries words count) e.file e.isn ≡ None
+    → holder (entries (append words count e) (count + 1)) e.file e.isn ≡ Some (count, e)
 holder_new words count e s room free =
-    rw (entries_append words count e s room) (holder_last (entries words count) e free ∙ ap (λ n. Held n e) (omega (arith, length_entries words count)))
+    rw (entries_append words count e s room) (holder_last (entries words count) e free ∙ ap (λ n. Some (n, e)) (omega (arith, length_entries words count)))

@@ -1,9 +1,8 @@
 -- The version of a record that `committed` names is what the abstract machine shows of its key once whoever has an entry is backed out.
 -- Assumes nothing.
-use Rattle.std.specs.Prelude.{ℕ, ◌+◌, ◌*◌, ◌≤◌, ◌<◌, ◌≡◌, Bool, true, ◌&&◌, List, length, take, drop}
+use Rattle.std.specs.Prelude.{ℕ, ◌+◌, ◌*◌, ◌≤◌, ◌<◌, ◌≡◌, Bool, true, ◌&&◌, List, length, take, drop, Option, Some, None}
 use Rattle.std.proofs.Common.{mul-le-mul_right, arith, ◌∙◌, eqb-true, le-leb}
 use Rattle.std.proofs.Math.Path.{refl, sym, ap}
-use Rattle.std.proofs.Math.Option.{none, some}
 use Rattle.std.proofs.Math.Seq.{take-take}
 use Rattle.lists.specs.Tests.{cond, Outcome, holds, fails, outcome, and_left}
 use Rattle.lists.specs.Folds.{all, all_at}
@@ -13,7 +12,6 @@ use Rattle.definition.specs.Shape.{DefinitionShape}
 use Rattle.definition.specs.declared.File.{File}
 use Rattle.definition.specs.declared.Definition.{Definition}
 use Rattle.records.specs.Records.{record_length}
-use Rattle.records.specs.declared.Found.TheVariants.{At}
 use Rattle.layout.specs.Layout.{image_length, place}
 use Rattle.layout.specs.Laws.{place_found}
 use Rattle.store.specs.Store.{has_record, shown, get as get_record, file_part}
@@ -22,8 +20,6 @@ use Rattle.entries.specs.Laws.{no_entry}
 use Rattle.entries.specs.declared.Entry.{Entry}
 use Rattle.queue.specs.Queue.{holder}
 use Rattle.queue.specs.Laws.{is_held, held_found}
-use Rattle.queue.specs.declared.Lookup.{Lookup}
-use Rattle.queue.specs.declared.Lookup.TheVariants.{Held, Free}
 use Rattle.committed.specs.Committed.{version_of, committed_version, image_inside, version_there, version_bytes}
 use Rattle.committed.specs.declared.Version.{Version}
 use Rattle.transactions.specs.Slots.{Slot}
@@ -41,17 +37,17 @@ use Rattle.ground.proofs.FirstChange.{image_wide}
 use Rattle.ground.specs.Committed.{version_slot}
 
 -- the store's own
-stored_slot : (f : File) (part : List ℕ) (isn : ℕ) → cond (has_record f part isn) (some (shown f part isn)) none ≡ get_record f part isn
+stored_slot : (f : File) (part : List ℕ) (isn : ℕ) → cond (has_record f part isn) (Some (shown f part isn)) None ≡ get_record f part isn
 unfolding shown get_record
 stored_slot f part isn = go (outcome (has_record f part isn))
   where
-    go : Outcome (has_record f part isn) → cond (has_record f part isn) (some (shown f part isn)) none ≡ get_record f part isn
+    go : Outcome (has_record f part isn) → cond (has_record f part isn) (Some (shown f part isn)) None ≡ get_record f part isn
     go (holds t) = rw t
     go (fails t) = rw t
 
 module _ (d : Definition) (s : DefinitionShape d) (U : Updates) (lent : List ℕ)
     (capacity : ℕ) (store words images : List ℕ) (count : ℕ) (m : Made d capacity store words images count)
-    (file isn i : ℕ) (small : isn < isn_bound) (here : place d file ≡ At i) where
+    (file isn i : ℕ) (small : isn < isn_bound) (here : place d file ≡ Some i) where
   abbrev es : List Entry
   es = entries words count
 
@@ -70,7 +66,7 @@ module _ (d : Definition) (s : DefinitionShape d) (U : Updates) (lent : List ℕ
   abbrev slot : Version → Slot
   slot v = version_slot f part images width v isn
 
-  slot_stored : slot (version_of Free) ≡ get d store k
+  slot_stored : slot (version_of None) ≡ get d store k
   unfolding version_there version_bytes
   slot_stored = stored_slot f part isn ∙ sym (get_key d store m.store_room file isn i small here)
 
@@ -81,7 +77,7 @@ module _ (d : Definition) (s : DefinitionShape d) (U : Updates) (lent : List ℕ
   q = queue_of d words images count
 
   -- ---- an entry for it, with its image
-  module _ (a : ℕ) (e : Entry) (found : holder es file isn ≡ Held a e) where
+  module _ (a : ℕ) (e : Entry) (found : holder es file isn ≡ Some (a, e)) where
     abbrev block : List ℕ
     block = take width (drop (a * width) images)
 
@@ -96,11 +92,11 @@ module _ (d : Definition) (s : DefinitionShape d) (U : Updates) (lent : List ℕ
     same_file = rw (eqb-true e.file file (and_left _ _ (held_found file isn es a e found).matches), here)
 
     -- what was there before the first change, where there was one; else the store's
-    slot_held : slot (version_of (Held a e)) ≡ cond e.changed (before d e block) (get d store k)
+    slot_held : slot (version_of (Some (a, e))) ≡ cond e.changed (before d e block) (get d store k)
     unfolding version_there version_bytes
     slot_held = go (outcome e.changed) (outcome e.existed)
       where
-        go : Outcome e.changed → Outcome e.existed → slot (version_of (Held a e)) ≡ cond e.changed (before d e block) (get d store k)
+        go : Outcome e.changed → Outcome e.existed → slot (version_of (Some (a, e))) ≡ cond e.changed (before d e block) (get d store k)
         go (holds c) (holds x) = rw (c, x, inside, same_file, take-take (record_length f) width (drop (a * width) images) narrow)
         go (holds c) (fails x) = rw (c, x)
         go (fails c) x = rw c slot_stored
@@ -114,7 +110,7 @@ module _ (d : Definition) (s : DefinitionShape d) (U : Updates) (lent : List ℕ
       backs_held : cond e.changed (before d e block) (get d store k) ≡ backs P (get d store k) (at k q)
       backs_held = rw (found_one d words images count m.single file isn a e found, his) (go (outcome e.changed))
         where
-          go : Outcome e.changed → cond e.changed (before d e block) (get d store k) ≡ cond (e.changed && true) (cond e.changed (before d e block) none) (get d store k)
+          go : Outcome e.changed → cond e.changed (before d e block) (get d store k) ≡ cond (e.changed && true) (cond e.changed (before d e block) None) (get d store k)
           go (holds c) = rw c
           go (fails c) = rw c
 
@@ -124,6 +120,6 @@ module _ (d : Definition) (s : DefinitionShape d) (U : Updates) (lent : List ℕ
     unfolding committed_version
     version_view = go (holder es file isn) refl ∙ sym (back_at k P (get d store k) q)
       where
-        go : (l : Lookup) → holder es file isn ≡ l → slot (version_of l) ≡ backs P (get d store k) (at k q)
-        go (Held a e) found = slot_held a e found ∙ backs_held a e found P whole
-        go Free found = slot_stored ∙ rw (sift_none (at_key k) q (held_key d words images count file isn small ∙ ap is_held found))
+        go : (l : Option (ℕ × Entry)) → holder es file isn ≡ l → slot (version_of l) ≡ backs P (get d store k) (at k q)
+        go (Some (a, e)) found = slot_held a e found ∙ backs_held a e found P whole
+        go None found = slot_stored ∙ rw (sift_none (at_key k) q (held_key d words images count file isn small ∙ ap is_held found))

@@ -1,10 +1,9 @@
 -- What a new entry and a removal make of the abstract queue: `with_hold`, and the `sift`s of release, end and back-out.
 -- Assumes nothing.
-use Rattle.std.specs.Prelude.{ℕ, ◌+◌, ◌*◌, ◌<◌, ◌≡◌, refl, Bool, true, false, not, cond, ◌&&◌, ◌||◌, List, [], ◌∷◌, ◌++◌, map, eqb, length, take, drop}
+use Rattle.std.specs.Prelude.{ℕ, ◌+◌, ◌*◌, ◌<◌, ◌≡◌, refl, Bool, true, false, not, cond, ◌&&◌, ◌||◌, List, [], ◌∷◌, ◌++◌, map, eqb, length, take, drop, Some, None}
 use Rattle.std.proofs.Common.{mul-le-mul_right, arith, sym, ◌∙◌, le-leb}
 use Rattle.std.proofs.Math.Path.{ap}
 use Rattle.std.proofs.lemmas.List.{map-append}
-use Rattle.std.proofs.Math.Option.{none}
 use Rattle.lists.specs.Tests.{Outcome, holds, fails, outcome, eqb_self}
 use Rattle.lists.specs.Folds.{Each}
 use Rattle.lists.specs.Sift.{sift}
@@ -15,7 +14,6 @@ use Rattle.queue.specs.Queue.{holder, append}
 use Rattle.entries.specs.Laws.{Shape}
 use Rattle.queue.specs.Laws.{is_held, entries_append}
 use Rattle.entries.specs.declared.Entry.{Entry}
-use Rattle.queue.specs.declared.Lookup.TheVariants.{Held, Free}
 use Rattle.removal.specs.Removal.{stays, fits, remove_queue, remove_images, remove_count}
 use Rattle.images.specs.Images.{hold_of, with_images}
 use Rattle.images.specs.Laws.{with_images_append}
@@ -33,7 +31,7 @@ use Rattle.transactions.proofs.Single.{all_at_key, release_one}
 module _ (d : Definition) where
   -- an unchanged entry keeps nothing, whatever lies in its image
   held_new : (e : Entry) (image : List ℕ) → e.changed ≡ false → held d (hold_of e image) ≡ new_entry e.user (key_of e)
-  held_new e image h = λ j. record { user = e.user; key = key_of e; changed = h j; image = ap (λ b. cond b (before d e image) none) h j }
+  held_new e image h = λ j. record { user = e.user; key = key_of e; changed = h j; image = ap (λ b. cond b (before d e image) None) h j }
 
   module _ (words images : List ℕ) (count : ℕ) where
     pub queue_append : (e : Entry) → Shape e → e.changed ≡ false → count < length words
@@ -44,12 +42,12 @@ module _ (d : Definition) where
         (map-append (held d) (with_images (image_length d) (entries words count) images) _ ∙ ap (λ x. queue_of d words images count ++ x ∷ []) (held_new e _ new))
 
     -- a hold of a key that nobody holds
-    pub queue_hold : (e : Entry) → Shape e → e.changed ≡ false → count < length words → holder (entries words count) e.file e.isn ≡ Free
+    pub queue_hold : (e : Entry) → Shape e → e.changed ≡ false → count < length words → holder (entries words count) e.file e.isn ≡ None
         → queue_of d (append words count e) images (count + 1) ≡ with_hold e.user (key_of e) (queue_of d words images count)
     queue_hold e s new room free = queue_append e s new room ∙ rw (held_key d words images count e.file e.isn s.isn ∙ ap is_held free)
 
     -- and of one that is held
-    pub queue_held : (u file isn i : ℕ) (e : Entry) → isn < isn_bound → holder (entries words count) file isn ≡ Held i e
+    pub queue_held : (u file isn i : ℕ) (e : Entry) → isn < isn_bound → holder (entries words count) file isn ≡ Some (i, e)
         → with_hold u (key file isn) (queue_of d words images count) ≡ queue_of d words images count
     queue_held u file isn i e small found = rw (held_key d words images count file isn small ∙ ap is_held found)
 
@@ -106,7 +104,7 @@ module _ (d : Definition) where
     queue_remove_one file isn small = removed (One file isn) (λ (e : MachineEntry). not (at_key (key file isn) e)) (each_one file isn small (entries words count) (entries_small words count))
 
     -- so a release of a user's unchanged entry
-    pub queue_release : (file isn i : ℕ) (e : Entry) → isn < isn_bound → holder (entries words count) file isn ≡ Held i e → e.changed ≡ false
+    pub queue_release : (file isn i : ℕ) (e : Entry) → isn < isn_bound → holder (entries words count) file isn ≡ Some (i, e) → e.changed ≡ false
         → left (One file isn) ≡ sift (λ (x : MachineEntry). x.changed || not (of_user e.user x && at_key (key file isn) x)) q
     queue_release file isn i e small found new =
         queue_remove_one file isn small

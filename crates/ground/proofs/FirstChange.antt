@@ -1,10 +1,9 @@
 -- What the first change of an entry, and a later one, make of the abstract queue: the entry of the key is changed, with the slot that stands there
 -- now as its image.
 -- Assumes nothing.
-use Rattle.std.specs.Prelude.{ℕ, zero, suc, ◌+◌, ◌*◌, ◌≤◌, ◌<◌, ◌≡◌, refl, Bool, true, false, cond, List, [], ◌∷◌, ◌++◌, map, eqb, length, take, drop, set}
+use Rattle.std.specs.Prelude.{ℕ, zero, suc, ◌+◌, ◌*◌, ◌≤◌, ◌<◌, ◌≡◌, refl, Bool, true, false, cond, List, [], ◌∷◌, ◌++◌, map, eqb, length, take, drop, set, Some, None}
 use Rattle.std.proofs.Common.{mul-le-mul_right, arith, ◌∙◌, append_assoc, length-append, length-take, length-drop, length-set, take-append-drop, drop-drop, take_all, get_or-take, length-take-le}
 use Rattle.std.proofs.Math.Path.{sym, ap}
-use Rattle.std.proofs.Math.Option.{none, some}
 use Rattle.std.proofs.Math.ListN.{get_or}
 use Rattle.std.proofs.lemmas.List.Edits.{sets, sets-eq}
 use Rattle.std.proofs.Math.Seq.{paste, take_at, set-set, get_or-set_same}
@@ -25,7 +24,6 @@ use Rattle.entries.specs.Laws.{no_entry, length_entries}
 use Rattle.changes.specs.Laws.{entries_change}
 use Rattle.queue.specs.Laws.{Found, held_found}
 use Rattle.entries.specs.declared.Entry.{Entry}
-use Rattle.queue.specs.declared.Lookup.TheVariants.{Held}
 use Rattle.images.specs.Images.{hold_of, with_images}
 use Rattle.images.specs.Laws.{with_images_set, with_images_image}
 use Rattle.transactions.specs.Slots.{Slot}
@@ -72,23 +70,23 @@ module _ (images content : List ℕ) (start width : ℕ) (fits : length content 
 module _ (d : Definition) where
   -- the entry changed, with the slot in its image, is the machine's entry with that image
   held_imaged : (e : Entry) (existed : Bool) (content old new : List ℕ) → e.changed ≡ false → (existed ≡ true → take (record_length (file_of d e.file)) new ≡ content)
-      → held d (hold_of (as_changed existed e) new) ≡ imaged_entry (cond existed (some content) none) (held d (hold_of e old))
+      → held d (hold_of (as_changed existed e) new) ≡ imaged_entry (cond existed (Some content) None) (held d (hold_of e old))
   held_imaged e existed content old new h w = λ j. record {
     user = e.user;
     key = key_of e;
     changed = true;
-    image = (go existed w ∙ sym (ap (λ b. cond b (cond b (before d e old) none) (cond existed (some content) none)) h)) j;
+    image = (go existed w ∙ sym (ap (λ b. cond b (cond b (before d e old) None) (cond existed (Some content) None)) h)) j;
   }
     where
       go : (b : Bool) → (b ≡ true → take (record_length (file_of d e.file)) new ≡ content)
-          → ◌≡◌ {A = Slot} (cond b (some (take (record_length (file_of d e.file)) new)) none) (cond b (some content) none)
-      go true t = ap some (t refl)
+          → ◌≡◌ {A = Slot} (cond b (Some (take (record_length (file_of d e.file)) new)) None) (cond b (Some content) None)
+      go true t = ap Some (t refl)
       go false t = refl
 
 -- ---- the change, in a well made state, of the entry that `holder` finds, by a slot that has a record (`existed`, with its `content`) or none
 module _ (d : Definition) (s : DefinitionShape d) (capacity : ℕ) (store words images : List ℕ) (count : ℕ) (m : Made d capacity store words images count)
-    (file isn at : ℕ) (e : Entry) (small : isn < isn_bound) (found : holder (entries words count) file isn ≡ Held at e)
-    (existed : Bool) (content : List ℕ) (now : get d store (key file isn) ≡ cond existed (some content) none) where
+    (file isn at : ℕ) (e : Entry) (small : isn < isn_bound) (found : holder (entries words count) file isn ≡ Some (at, e))
+    (existed : Bool) (content : List ℕ) (now : get d store (key file isn) ≡ cond existed (Some content) None) where
   abbrev width : ℕ
   width = image_length d
 
@@ -128,7 +126,7 @@ module _ (d : Definition) (s : DefinitionShape d) (capacity : ℕ) (store words 
   content_width : existed ≡ true → length content ≡ record_length (file_at d home.at)
   content_width h =
       let fits = rw (now, h) at (get_fit d s store k found_known) in
-      eqb-true (length content) (record_length (file_at d home.at)) (fit_form d s k (some content) fits home.at home.found)
+      eqb-true (length content) (record_length (file_at d home.at)) (fit_form d s k (Some content) fits home.at home.found)
 
   settled_is : settled words at ≡ e.changed
   unfolding settled

@@ -1,9 +1,8 @@
 -- Set-up leaves no record at any key, the store's length as it was, and nothing past the table's size touched.
 -- Assumes nothing.
-use Rattle.std.specs.Prelude.{ℕ, ◌≤◌, ◌<◌, ◌≡◌, true, List, [], ◌∷◌, eqb, length, drop}
+use Rattle.std.specs.Prelude.{ℕ, ◌≤◌, ◌<◌, ◌≡◌, true, List, [], ◌∷◌, eqb, length, drop, Option, Some, None}
 use Rattle.std.proofs.Common.{arith, ◌∙◌, eqb-true}
 use Rattle.std.proofs.Math.Path.{refl, ap}
-use Rattle.std.proofs.Math.Option.{none}
 use Rattle.std.proofs.lemmas.Bool.{eqb-false}
 use Rattle.lists.specs.Tests.{Outcome, holds, fails, outcome, not_both}
 use Rattle.lists.specs.Folds.{any, Each}
@@ -13,8 +12,6 @@ use Rattle.definition.specs.declared.Definition.{Definition}
 use Rattle.records.specs.Records.{file_size}
 use Rattle.layout.specs.Layout.{store_size, place}
 use Rattle.layout.specs.Laws.{place_found}
-use Rattle.records.specs.declared.Found.{Found}
-use Rattle.records.specs.declared.Found.TheVariants.{At, Nowhere}
 use Rattle.lists.specs.Numbers.{numbers, each_number, in_numbers}
 use Rattle.store.specs.Store.{get as get_record, fresh, file_part}
 use Rattle.store.proofs.Laws.{fresh_length, get_fresh}
@@ -30,7 +27,7 @@ module _ (d : Definition) (s : DefinitionShape d) where
 
   -- no ISN of the file has a record
   abbrev Blank : ℕ → List ℕ → Type 0
-  Blank j store = (isn : ℕ) → get_record (file_at d j) (file_part d j store) isn ≡ none
+  Blank j store = (isn : ℕ) → get_record (file_at d j) (file_part d j store) isn ≡ None
 
   module _ (store : List ℕ) (room : store_size d ≤ length store) (i : ℕ) (in_use : i < file_count d) where
     size : length (fresh (file_at d i) (file_part d i store)) ≡ file_size (file_at d i)
@@ -48,7 +45,7 @@ module _ (d : Definition) (s : DefinitionShape d) where
     at_keeps : (j : ℕ) → j < file_count d → Blank j store → Blank j (fresh_at d i store)
     at_keeps j h b isn = go (outcome (eqb j i))
       where
-        go : Outcome (eqb j i) → get_record (file_at d j) (file_part d j (fresh_at d i store)) isn ≡ none
+        go : Outcome (eqb j i) → get_record (file_at d j) (file_part d j (fresh_at d i store)) isn ≡ None
         go (holds e) = rw (eqb-true j i e) (at_blank isn)
         go (fails e) = rw (part_other d s store room i in_use _ size j h (eqb-false j i e)) (b isn)
 
@@ -92,15 +89,15 @@ module _ (d : Definition) (s : DefinitionShape d) where
     fresh_room = omega (arith, fresh_whole, whole_room d store)
 
     -- set-up leaves no record at any key
-    pub get_fresh_store : (k : ℕ) → get d (fresh_store d store) k ≡ none
+    pub get_fresh_store : (k : ℕ) → get d (fresh_store d store) k ≡ None
     unfolding fresh_store
     get_fresh_store k = get_is d (fresh_store d store) fresh_room k ∙ go (place d (key_file k)) refl
       where
-        go : (r : Found) → place d (key_file k) ≡ r → get_at d r (key_isn k) (fresh_from d (numbers (file_count d) 0) (whole d store)) ≡ none
-        go (At i) e =
+        go : (r : Option ℕ) → place d (key_file k) ≡ r → get_at d r (key_isn k) (fresh_from d (numbers (file_count d) 0) (whole d store)) ≡ None
+        go (Some i) e =
             let h = (place_found d s (key_file k) i e).0 in
             from_blank i h (numbers (file_count d) 0) all_in_use (in_numbers (file_count d) 0 i (omega arith) (omega arith)) (whole d store) (whole_room d store) (key_isn k)
-        go Nowhere e = refl
+        go None e = refl
 
     module _ (room : store_size d ≤ length store) where
       pub fresh_store_is : fresh_store d store ≡ fresh_from d (numbers (file_count d) 0) store

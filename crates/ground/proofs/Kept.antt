@@ -1,6 +1,6 @@
 -- A well made state stays so: after a new entry, a change of an entry, a removal, a record put and a back-out.
 -- Assumes nothing.
-use Rattle.std.specs.Prelude.{ℕ, ◌+◌, ◌*◌, ◌≤◌, ◌<◌, ◌≡◌, Bool, not, cond, ◌&&◌, List, [], ◌∷◌, eqb, get_or, set}
+use Rattle.std.specs.Prelude.{ℕ, ◌+◌, ◌*◌, ◌≤◌, ◌<◌, ◌≡◌, Bool, not, cond, ◌&&◌, List, [], ◌∷◌, eqb, get_or, set, None}
 use Rattle.std.proofs.Common.{arith, sym, ap, ◌∙◌}
 use Rattle.std.proofs.Math.Path.{refl}
 use Rattle.std.proofs.Math.Bool.{true, false}
@@ -22,7 +22,6 @@ use Rattle.entries.specs.Laws.{Shape, no_entry}
 use Rattle.queue.specs.Laws.{free_none, entries_append, length_append_entry}
 use Rattle.changes.specs.Laws.{entries_change, length_change}
 use Rattle.entries.specs.declared.Entry.{Entry}
-use Rattle.queue.specs.declared.Lookup.TheVariants.{Free}
 use Rattle.removal.specs.Removal.{stays, remove_queue, remove_images, remove_count}
 use Rattle.removal.specs.Laws.{remove_count_most, length_remove_queue, length_remove_images, entries_remove}
 use Rattle.removal.specs.declared.Removal.{Removal}
@@ -55,7 +54,7 @@ changed_single es i existed =
     ∙ ap (distinct same_pair) (map-set_same file_isn es i (as_changed existed (get_or es i no_entry)) no_entry refl) ∙ sym (distinct_over file_isn same_pair es))
 
 module _ (d : Definition) (capacity : ℕ) (store words images : List ℕ) (count : ℕ) (m : Made d capacity store words images count) where
-  pub made_append : (e : Entry) → Shape e → known d (key_of e) ≡ true → holder (entries words count) e.file e.isn ≡ Free → count < capacity
+  pub made_append : (e : Entry) → Shape e → known d (key_of e) ≡ true → holder (entries words count) e.file e.isn ≡ None → count < capacity
       → Made d capacity store (append words count e) images (count + 1)
   unfolding repeated
   made_append e s known_e free more =

@@ -1,6 +1,6 @@
 -- Laws of keys: a key and its parts; which keys are the table's.
 -- Assumes nothing.
-use Rattle.std.specs.Prelude.{ℕ, zero, suc, ◌+◌, ◌-◌, ◌≤◌, ◌<◌, ◌≡◌, ◌&&◌, List, [], ◌∷◌, map, eqb, length, get_or}
+use Rattle.std.specs.Prelude.{ℕ, zero, suc, ◌+◌, ◌-◌, ◌≤◌, ◌<◌, ◌≡◌, ◌&&◌, List, [], ◌∷◌, map, eqb, length, get_or, Option, Some, None}
 use Rattle.std.proofs.Common.{div-add-mod', sym, ap, ◌∙◌, get_or-take, length-take-le, eqb-true, eq-eqb}
 use native.Mathlib.Omega.{arith}
 use Rattle.std.proofs.Math.Path.{refl}
@@ -14,8 +14,6 @@ use Rattle.definition.specs.declared.File.{File}
 use Rattle.definition.specs.declared.Definition.{Definition}
 use Rattle.layout.specs.Layout.{place, file_found, isn_found}
 use Rattle.layout.specs.Laws.{place_found}
-use Rattle.records.specs.declared.Found.{Found}
-use Rattle.records.specs.declared.Found.TheVariants.{At, Nowhere}
 use Rattle.validity.specs.Validity.{valid}
 use Rattle.validity.specs.Laws.{valid_at, place_own}
 use Rattle.lists.specs.Numbers.{from_to, in_numbers, all_numbers}
@@ -69,8 +67,8 @@ module _ (d : Definition) (s : DefinitionShape d) where
   unfolding known
   known_found k h = go (place d (key_file k)) refl h
     where
-      go : (r : Found) → place d (key_file k) ≡ r → isn_found d r (key_isn k) ≡ true → Known d k
-      go (At i) e t = record {
+      go : (r : Option ℕ) → place d (key_file k) ≡ r → isn_found d r (key_isn k) ≡ true → Known d k
+      go (Some i) e t = record {
         at = i;
         found = e;
         in_use = (place_found d s (key_file k) i e).0;
@@ -78,9 +76,9 @@ module _ (d : Definition) (s : DefinitionShape d) where
         least = within_least 1 (file_at d i).max_isn (key_isn k) t;
         most = within_most 1 (file_at d i).max_isn (key_isn k) t;
       }
-      go Nowhere e t = not_both false t refl
+      go None e t = not_both false t refl
 
-  pub known_here : (k i : ℕ) → place d (key_file k) ≡ At i → 1 ≤ key_isn k → key_isn k ≤ (file_at d i).max_isn → known d k ≡ true
+  pub known_here : (k i : ℕ) → place d (key_file k) ≡ Some i → 1 ≤ key_isn k → key_isn k ≤ (file_at d i).max_isn → known d k ≡ true
   unfolding known
   known_here k i e a b = rw e (within_inside 1 (file_at d i).max_isn (key_isn k) a b)
 

@@ -1,6 +1,6 @@
 -- What is found in the queue is what the abstract queue has: who holds a key, and that no key is held twice.
 -- Assumes nothing.
-use Rattle.std.specs.Prelude.{ℕ, zero, suc, ◌+◌, ◌*◌, ◌<◌, ◌≡◌, refl, Bool, true, false, not, ◌&&◌, List, [], ◌∷◌, eqb, length, take, drop, get_or}
+use Rattle.std.specs.Prelude.{ℕ, zero, suc, ◌+◌, ◌*◌, ◌<◌, ◌≡◌, refl, Bool, true, false, not, ◌&&◌, List, [], ◌∷◌, eqb, length, take, drop, get_or, Option, Some, None}
 use Rattle.std.proofs.Common.{le_of_suc-le-suc, not-suc-le-zero, arith, ◌∙◌, drop-drop, eqb-true}
 use Rattle.std.proofs.Math.Path.{sym, ap}
 use Rattle.std.proofs.Math.Bool.{and-true, or-false}
@@ -17,8 +17,6 @@ use Rattle.queue.specs.Queue.{holder}
 use Rattle.entries.specs.Laws.{no_entry, unpack_shape, length_entries, entry_at}
 use Rattle.queue.specs.Laws.{is_held, held_any, Found, held_found}
 use Rattle.entries.specs.declared.Entry.{Entry}
-use Rattle.queue.specs.declared.Lookup.{Lookup}
-use Rattle.queue.specs.declared.Lookup.TheVariants.{Held, Free}
 use Rattle.images.specs.Images.{hold_of, with_images}
 use Rattle.images.specs.Laws.{length_with_images}
 use Rattle.transactions.specs.Machine.{Entry as MachineEntry, of_user, at_key, held_by_other}
@@ -78,9 +76,9 @@ entries_small words count = each_index (λ e. e.isn < isn_bound) no_entry (entri
     here i h = let m : i < count = omega (arith, length_entries words count) in rw (entry_at words count i m) (unpack_shape (get_or words i 0)).isn
 
 -- the user of an entry that was found passes the test
-abbrev pub found_passes : (ℕ → Bool) → Lookup → Bool
-found_passes p (Held i e) = p e.user
-found_passes p Free = false
+abbrev pub found_passes : (ℕ → Bool) → Option (ℕ × Entry) → Bool
+found_passes p (Some (i, e)) = p e.user
+found_passes p None = false
 
 module _ (d : Definition) (words images : List ℕ) (count : ℕ) where
   abbrev q : List MachineEntry
@@ -100,7 +98,7 @@ module _ (d : Definition) (words images : List ℕ) (count : ℕ) where
     unfolding queue_of repeated
     single_at k = single_held d k (entries words count) images (entries_small words count) (not-false (distinct alike (entries words count)) single)
 
-    module _ (file isn i : ℕ) (e : Entry) (found : holder (entries words count) file isn ≡ Held i e) where
+    module _ (file isn i : ℕ) (e : Entry) (found : holder (entries words count) file isn ≡ Some (i, e)) where
       abbrev place : Found (entries words count) file isn i e
       place = held_found file isn (entries words count) i e found
 
@@ -136,10 +134,10 @@ module _ (d : Definition) (words images : List ℕ) (count : ℕ) where
         → held_by_other u (key file isn) q ≡ found_passes (λ v. not (eqb v u)) (holder (entries words count) file isn)
     other_holds file isn small u = go (holder (entries words count) file isn) refl
       where
-        go : (r : Lookup) → holder (entries words count) file isn ≡ r → held_by_other u (key file isn) q ≡ found_passes (λ v. not (eqb v u)) r
-        go (Held i e) found =
+        go : (r : Option (ℕ × Entry)) → holder (entries words count) file isn ≡ r → held_by_other u (key file isn) q ≡ found_passes (λ v. not (eqb v u)) r
+        go (Some (i, e)) found =
             sym (any_sift (at_key (key file isn)) (λ (x : MachineEntry). not (of_user u x)) q)
             ∙ rw (found_one file isn i e found) (or-false (not (eqb e.user u)))
-        go Free found =
+        go None found =
             sym (any_sift (at_key (key file isn)) (λ (x : MachineEntry). not (of_user u x)) q)
             ∙ rw (sift_none (at_key (key file isn)) q (held_key file isn small ∙ ap is_held found))

@@ -1,12 +1,11 @@
 -- Back-out: what `hold` puts back, entry by entry, is what the abstract machine restores.
 -- Assumes nothing.
-use Rattle.std.specs.Prelude.{ℕ, ◌*◌, ◌≤◌, ◌<◌, ◌≡◌, Bool, ◌&&◌, drop}
+use Rattle.std.specs.Prelude.{ℕ, ◌*◌, ◌≤◌, ◌<◌, ◌≡◌, Bool, ◌&&◌, drop, Option, Some, None}
 use Rattle.std.proofs.Math.Nat.{mul-le-mul_right}
 use Rattle.std.proofs.Common.{arith, ◌∙◌, le-leb}
 use Rattle.std.proofs.Math.Path.{refl, ap}
 use Rattle.std.proofs.Math.Bool.{true, false, cond}
 use mathlib.Core.List.{List, [], ◌∷◌}
-use Rattle.std.proofs.Math.Option.{none, some}
 use Rattle.std.proofs.Math.Dec.{eqb}
 use Rattle.std.proofs.Math.ListN.{length, take}
 use Rattle.definition.specs.Table.{file_at}
@@ -14,8 +13,6 @@ use Rattle.definition.specs.Shape.{DefinitionShape}
 use Rattle.definition.specs.declared.Definition.{Definition}
 use Rattle.records.specs.Records.{record_length}
 use Rattle.layout.specs.Layout.{store_size, image_length, place, file_found}
-use Rattle.records.specs.declared.Found.{Found}
-use Rattle.records.specs.declared.Found.TheVariants.{At, Nowhere}
 use Rattle.store.specs.Store.{put_record, empty, file_part, with_part}
 use Rattle.entries.specs.Entries.{entries}
 use Rattle.entries.specs.declared.Entry.{Entry}
@@ -39,17 +36,17 @@ module _ (d : Definition) (s : DefinitionShape d) where
       rw (le-leb (store_size d) (length store) room, put_is d store room (key_of e) (before d e image), file_of_key e.file e.isn small, isn_of_key e.file e.isn small)
       (go (place d e.file))
     where
-      go : (r : Found) → put_back_at d r e image store ≡ put_at d r e.isn (cond e.existed (some (take (record_length (file_found d r)) image)) none) store
-      go (At i) = ap (with_part d i store) (branch e.existed)
+      go : (r : Option ℕ) → put_back_at d r e image store ≡ put_at d r e.isn (cond e.existed (Some (take (record_length (file_found d r)) image)) None) store
+      go (Some i) = ap (with_part d i store) (branch e.existed)
         where
           branch : (b : Bool) → cond b (put_record (file_at d i) (file_part d i store) e.isn (take (record_length (file_at d i)) image)) (empty (file_at d i) (file_part d i store) e.isn)
-              ≡ put_in (file_at d i) (file_part d i store) e.isn (cond b (some (take (record_length (file_at d i)) image)) none)
+              ≡ put_in (file_at d i) (file_part d i store) e.isn (cond b (Some (take (record_length (file_at d i)) image)) None)
           branch true = refl
           branch false = refl
-      go Nowhere = refl
+      go None = refl
 
   -- where it is to be undone
-  undone_test : (c u : Bool) (store : List ℕ) (k : ℕ) (x : Slot) → cond (u && c) (put d store k x) store ≡ cond (c && u) (put d store k (cond c x none)) store
+  undone_test : (c u : Bool) (store : List ℕ) (k : ℕ) (x : Slot) → cond (u && c) (put d store k x) store ≡ cond (c && u) (put d store k (cond c x None)) store
   undone_test true true store k x = refl
   undone_test true false store k x = refl
   undone_test false true store k x = refl

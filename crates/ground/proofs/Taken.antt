@@ -1,11 +1,10 @@
 -- Whether a unique value is taken: what the abstract machine asks (`taken`) is `elsewhere` in the file's part of the store, or `image_has`, of each
 -- unique field that the change judges.
 -- Assumes nothing.
-use Rattle.std.specs.Prelude.{ℕ, ◌≤◌, ◌<◌, ◌≡◌, Bool, not, ◌&&◌, ◌||◌, List, eqb, length}
+use Rattle.std.specs.Prelude.{ℕ, ◌≤◌, ◌<◌, ◌≡◌, Bool, not, ◌&&◌, ◌||◌, List, eqb, length, Some, None}
 use Rattle.std.proofs.Common.{arith, sym, ap, ◌∙◌, eqb-true, ne_eqb}
 use Rattle.std.proofs.Math.Path.{refl}
 use Rattle.std.proofs.Math.Bool.{true, false}
-use Rattle.std.proofs.Math.Option.{none, some}
 use Rattle.std.proofs.lemmas.Bool.{eqb-false, not-true}
 use Rattle.lists.specs.Tests.{Outcome, holds, fails, outcome, not_both, eqb_self, eqbs_self, and_left, and_right, both_ways, eqbs_true}
 use Rattle.lists.specs.Folds.{any, any_agree, any_true}
@@ -45,12 +44,12 @@ elem_any p n l h t = go (outcome (any p l))
 -- a slot that has the value has a record
 pub record Holds (f : File) (j : ℕ) (v : List ℕ) (x : Slot) : Type 0 where
   pub bytes : List ℕ
-  pub there : x ≡ some bytes
+  pub there : x ≡ Some bytes
   pub has : field_value f j bytes ≡ v
 
 has_holds : (f : File) (j : ℕ) (v : List ℕ) (x : Slot) → has_value f j v x ≡ true → Holds f j v x
-has_holds f j v none h = not_both false h refl
-has_holds f j v (some b) h = record { bytes = b; there = refl; has = sym (eqbs_true v (field_value f j b) h) }
+has_holds f j v None h = not_both false h refl
+has_holds f j v (Some b) h = record { bytes = b; there = refl; has = sym (eqbs_true v (field_value f j b) h) }
 
 module _ (d : Definition) (s : DefinitionShape d) (valid_d : valid d ≡ true) (store : List ℕ) (long : store_size d ≤ length store) (k : ℕ) (home : Known d k) where
   abbrev f : File
@@ -101,7 +100,7 @@ module _ (d : Definition) (s : DefinitionShape d) (valid_d : valid d ≡ true) (
         let file : key_file i ≡ key_file k = file_of_key f.number w.other small ∙ home.number in
         let isn : key_isn i ≡ w.other = isn_of_key f.number w.other small in
         let unlike : eqb k i ≡ false = ne_eqb k i (λ e. w.apart (sym isn ∙ sym (ap key_isn e))) in
-        let here : get d store i ≡ some w.bytes = get_beside i file ∙ ap (get_record f part) isn ∙ w.there in
+        let here : get d store i ≡ Some w.bytes = get_beside i file ∙ ap (get_record f part) isn ∙ w.there in
         elem_any seen i (keys d) (keys_known d s valid_d i ∙ known_i) (rw (unlike, file, eqb_self (key_file k), here, w.has) (eqbs_self v))
 
     pub elsewhere_is : any seen (keys d) ≡ elsewhere f part j (key_isn k) v
@@ -133,7 +132,7 @@ module _ (d : Definition) (s : DefinitionShape d) (valid_d : valid d ≡ true) (
 
     -- "it counts as taken while another record of the file has it in that field, or an image of another user's changed entry in that file has it there"
     pub taken_is : (u : ℕ) (words images : List ℕ) (count : ℕ) → held_by_other u k (queue_of d words images count) ≡ false
-        → taken (ground d U lent) u k c (some r) (machine d U lent store words images count)
+        → taken (ground d U lent) u k c (Some r) (machine d U lent store words images count)
         ≡ any (λ j. U.judges c j && (elsewhere f part j (key_isn k) (value j) || image_has (entries words count) images (image_length d) u (key_file k) (field_offset f j) (value j))) (uniques f)
     unfolding taken
     taken_is u words images count free =

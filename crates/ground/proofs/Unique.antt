@@ -1,10 +1,9 @@
 -- Unique values that another user's image keeps: `image_has` is what the abstract machine asks of its queue (`taken`).
 -- Assumes nothing.
-use Rattle.std.specs.Prelude.{ℕ, ◌+◌, ◌<◌, ◌≡◌, Bool, true, false, not, cond, ◌&&◌, ◌||◌, eqb, length, drop}
+use Rattle.std.specs.Prelude.{ℕ, ◌+◌, ◌<◌, ◌≡◌, Bool, true, false, not, cond, ◌&&◌, ◌||◌, eqb, length, drop, Some, None}
 use Rattle.std.proofs.Common.{arith, ◌∙◌, eqb-true}
 use Rattle.std.proofs.Math.Path.{refl, sym, ap}
 use mathlib.Core.List.{List, [], ◌∷◌}
-use Rattle.std.proofs.Math.Option.{none, some}
 use Rattle.std.proofs.Math.ListN.{take}
 use Rattle.lists.specs.Tests.{eqbs, not_both, eqb_comm, eqbs_comm}
 use Rattle.lists.specs.Folds.{any, Each}
@@ -34,8 +33,8 @@ use Rattle.ground.specs.Ground.{Updates, ground, uniques}
 
 -- the slot has a record with the value in its field at place j
 abbrev pub has_value : File → ℕ → List ℕ → Slot → Bool
-has_value f j v none = false
-has_value f j v (some b) = eqbs v (field_value f j b)
+has_value f j v None = false
+has_value f j v (Some b) = eqbs v (field_value f j b)
 
 -- a changed entry of another user, of the file
 abbrev pub foreign : ℕ → ℕ → MachineEntry → Bool
@@ -54,7 +53,7 @@ module _ (d : Definition) (file : ℕ) (s : FileShape (file_of d file)) where
         rw (size, rw z at front) (eqbs_comm _ v)
 
     entry_test : (u c g x : Bool) (image : List ℕ) (t : Bool) → (g ≡ true → t ≡ eqbs v (field_value f j image))
-        → (not u && (g && (c && x)) && t) ≡ (c && not u && g && has_value f j v (cond c (cond x (some image) none) none))
+        → (not u && (g && (c && x)) && t) ≡ (c && not u && g && has_value f j v (cond c (cond x (Some image) None) None))
     entry_test true true g x image t h = refl
     entry_test true false g x image t h = refl
     entry_test false true true true image t h = h refl
@@ -94,8 +93,8 @@ module _ (d : Definition) (U : Updates) (lent : List ℕ) (k : ℕ) (s : FileSha
 
   pub clash_is : (x : Slot) → clash (ground d U lent) c (key_file k) r x ≡ any (λ j. U.judges c j && has_value of_file j (field_value of_file j r) x) (uniques of_file)
   unfolding clash
-  clash_is none = sym (any_never (U.judges c) (uniques of_file))
-  clash_is (some b) = refl
+  clash_is None = sym (any_never (U.judges c) (uniques of_file))
+  clash_is (Some b) = refl
 
   module _ (u : ℕ) (words images : List ℕ) (count : ℕ) where
     abbrev q : List MachineEntry

@@ -1,7 +1,6 @@
 -- Worked examples: a table of two files, its store of 15 bytes and two more, and a queue of three entries, read as the abstract machine's.
 -- Assumes nothing.
-use Rattle.std.specs.Prelude.{ℕ, ◌≡◌, refl, true, false, List, [], ◌∷◌, map, set}
-use Rattle.std.proofs.Math.Option.{none, some}
+use Rattle.std.specs.Prelude.{ℕ, ◌≡◌, refl, true, false, List, [], ◌∷◌, map, set, Some, None}
 use Rattle.definition.specs.Table.{no_file, no_definition}
 use Rattle.definition.specs.declared.File.{File}
 use Rattle.definition.specs.declared.Definition.{Definition}
@@ -48,16 +47,16 @@ all_keys : keys table ≡ 65537 ∷ 65538 ∷ 65539 ∷ 131073 ∷ []
 unfolding table paper other keys key
 all_keys = refl
 
-slots : map (get table store) (65537 ∷ 65538 ∷ 65539 ∷ 131073 ∷ 65540 ∷ 196609 ∷ []) ≡ some (50 ∷ 65 ∷ 66 ∷ []) ∷ none ∷ some (52 ∷ 69 ∷ 70 ∷ []) ∷ some (71 ∷ 72 ∷ []) ∷ none ∷ none ∷ []
+slots : map (get table store) (65537 ∷ 65538 ∷ 65539 ∷ 131073 ∷ 65540 ∷ 196609 ∷ []) ≡ Some (50 ∷ 65 ∷ 66 ∷ []) ∷ None ∷ Some (52 ∷ 69 ∷ 70 ∷ []) ∷ Some (71 ∷ 72 ∷ []) ∷ None ∷ None ∷ []
 unfolding table paper other store get get_record has_record file_part whole place key_file key_isn record_length file_offset store_size
 slots = refl
 
 -- a record put in file 2, and an ISN of file 1 emptied: nothing else changes
-record_put : put table store 131073 (some (7 ∷ 8 ∷ [])) ≡ 1 ∷ 50 ∷ 65 ∷ 66 ∷ 2 ∷ 51 ∷ 67 ∷ 68 ∷ 1 ∷ 52 ∷ 69 ∷ 70 ∷ 1 ∷ 7 ∷ 8 ∷ 98 ∷ 99 ∷ []
+record_put : put table store 131073 (Some (7 ∷ 8 ∷ [])) ≡ 1 ∷ 50 ∷ 65 ∷ 66 ∷ 2 ∷ 51 ∷ 67 ∷ 68 ∷ 1 ∷ 52 ∷ 69 ∷ 70 ∷ 1 ∷ 7 ∷ 8 ∷ 98 ∷ 99 ∷ []
 unfolding table paper other store put put_record slot_fits file_part with_part whole place key_file key_isn record_length file_offset store_size
 record_put = refl
 
-emptied : put table store 65539 none ≡ 1 ∷ 50 ∷ 65 ∷ 66 ∷ 2 ∷ 51 ∷ 67 ∷ 68 ∷ 0 ∷ 52 ∷ 69 ∷ 70 ∷ 1 ∷ 71 ∷ 72 ∷ 98 ∷ 99 ∷ []
+emptied : put table store 65539 None ≡ 1 ∷ 50 ∷ 65 ∷ 66 ∷ 2 ∷ 51 ∷ 67 ∷ 68 ∷ 0 ∷ 52 ∷ 69 ∷ 70 ∷ 1 ∷ 71 ∷ 72 ∷ 98 ∷ 99 ∷ []
 unfolding table paper other store put empty slot_fits file_part with_part whole place key_file key_isn record_length file_offset store_size
 emptied = refl
 
@@ -73,9 +72,9 @@ images = 73 ∷ 74 ∷ 9 ∷ 10 ∷ 11 ∷ 12 ∷ 13 ∷ 14 ∷ 15 ∷ []
 
 -- of the first image the width of file 2 counts; the others count for nothing
 queue_read : queue_of table words images 3
-    ≡ record { user = 1; key = 131073; changed = true; image = some (73 ∷ 74 ∷ []) } ∷
-    record { user = 2; key = 65537; changed = false; image = none } ∷
-    record { user = 1; key = 65539; changed = true; image = none } ∷ []
+    ≡ record { user = 1; key = 131073; changed = true; image = Some (73 ∷ 74 ∷ []) } ∷
+    record { user = 2; key = 65537; changed = false; image = None } ∷
+    record { user = 1; key = 65539; changed = true; image = None } ∷ []
 unfolding table paper other words images queue_of entries pack_of unpack_of key file_of place record_length image_length
 queue_read = refl
 

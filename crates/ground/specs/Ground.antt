@@ -1,7 +1,6 @@
 -- The ground on which the abstract machine of `transactions` stands: the keys of the table, the flat store, the unique fields of a file. The kinds
 -- of change are a parameter (`Updates`): what a command does to a record is said above this crate.
-use Rattle.std.specs.Prelude.{ℕ, ◌≡◌, Bool, true, false, List, eqb}
-use Rattle.std.proofs.Math.Option.{some}
+use Rattle.std.specs.Prelude.{ℕ, ◌≡◌, Bool, true, false, List, eqb, Some}
 use Rattle.lists.specs.Folds.{any}
 use Rattle.lists.specs.Sift.{sift}
 use Rattle.definition.specs.Table.{field_at, field_count, is_unique}
@@ -52,6 +51,6 @@ machine d U lent store words images count = record { store = store; queue = queu
 pub record UpdateLaws (d : Definition) (U : Updates) : Type 0 where
   pub may_known : (c : U.Update) (k : ℕ) (x : Slot) → U.may c k x ≡ true → known d k ≡ true
   pub may_fit : (c : U.Update) (k : ℕ) (x : Slot) → U.may c k x ≡ true → fit d k (U.apply k c x) ≡ true
-  pub kept : (c : U.Update) (k : ℕ) (x : Slot) (r : Bytes) (j : ℕ) → U.may c k x ≡ true → U.apply k c x ≡ some r
+  pub kept : (c : U.Update) (k : ℕ) (x : Slot) (r : Bytes) (j : ℕ) → U.may c k x ≡ true → U.apply k c x ≡ Some r
       → any (eqb j) (uniques (file_of d (key_file k))) ≡ true → U.judges c j ≡ false
-      → (o : Bytes) × (x ≡ some o) × (field_value (file_of d (key_file k)) j o ≡ field_value (file_of d (key_file k)) j r)
+      → (o : Bytes) × (x ≡ Some o) × (field_value (file_of d (key_file k)) j o ≡ field_value (file_of d (key_file k)) j r)

@@ -1,10 +1,9 @@
 -- Keys: one number for a file's number and an ISN. The abstract machine of `transactions` knows records by keys only.
-use Rattle.std.specs.Prelude.{ℕ, ◌+◌, ◌*◌, ◌/◌, ◌%◌, ◌≤◌, ◌<◌, ◌≡◌, Bool, List, [], ◌∷◌, ◌++◌, map}
+use Rattle.std.specs.Prelude.{ℕ, ◌+◌, ◌*◌, ◌/◌, ◌%◌, ◌≤◌, ◌<◌, ◌≡◌, Bool, List, [], ◌∷◌, ◌++◌, map, Some}
 use Rattle.definition.specs.Table.{file_at, file_count, files_of}
 use Rattle.definition.specs.declared.File.{File}
 use Rattle.definition.specs.declared.Definition.{Definition}
 use Rattle.layout.specs.Layout.{place, file_found, isn_found}
-use Rattle.records.specs.declared.Found.TheVariants.{At}
 use Rattle.lists.specs.Numbers.{from_to}
 
 -- the numbers that an ISN of two bytes has
@@ -40,7 +39,7 @@ keys d = keys_of (files_of d)
 -- ---- a key of the table
 pub record Known (d : Definition) (k : ℕ) : Type 0 where
   pub at : ℕ
-  pub found : place d (key_file k) ≡ At at
+  pub found : place d (key_file k) ≡ Some at
   pub in_use : at < file_count d
   pub number : (file_at d at).number ≡ key_file k
   pub least : 1 ≤ key_isn k

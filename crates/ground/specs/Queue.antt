@@ -1,7 +1,6 @@
 -- The hold queue with its image buffer, read as the queue of the abstract machine: an entry with its image as the machine's entry; and what
 -- document 01 calls well made, as far as store, queue and images go.
-use Rattle.std.specs.Prelude.{ℕ, ◌*◌, ◌≤◌, ◌≡◌, Bool, true, false, cond, List, map, length, take}
-use Rattle.std.proofs.Math.Option.{none, some}
+use Rattle.std.specs.Prelude.{ℕ, ◌*◌, ◌≤◌, ◌≡◌, Bool, true, false, cond, List, map, length, take, Some, None}
 use Rattle.lists.specs.Folds.{all}
 use Rattle.definition.specs.declared.Definition.{Definition}
 use Rattle.records.specs.Records.{record_length}
@@ -19,7 +18,7 @@ key_of e = key e.file e.isn
 
 -- what a back-out puts back: the record at the front of the image, or none "where no record was"
 abbrev pub before : Definition → Entry → List ℕ → Slot
-before d e image = cond e.existed (some (take (record_length (file_of d e.file)) image)) none
+before d e image = cond e.existed (Some (take (record_length (file_of d e.file)) image)) None
 
 -- an image counts in a changed entry only; what lies there for another is free
 abbrev pub held : Definition → Hold → MachineEntry
@@ -27,7 +26,7 @@ held d h = record {
   user = h.entry.user;
   key = key_of h.entry;
   changed = h.entry.changed;
-  image = cond h.entry.changed (before d h.entry h.image) none;
+  image = cond h.entry.changed (before d h.entry h.image) None;
 }
 
 abbrev pub holds_of : Definition → List Entry → List ℕ → List MachineEntry

@@ -1,6 +1,6 @@
 -- The hand-over, and the back-out that was not asked for, on a nucleus from its parts.
 -- Assumes nothing.
-use Rattle.std.specs.Prelude.{ℕ, ◌+◌, ◌-◌, ◌≤◌, ◌<◌, min, ◌≡◌, refl, Bool, false, List, [], ◌∷◌, length, get_or, set, take, drop}
+use Rattle.std.specs.Prelude.{ℕ, ◌+◌, ◌-◌, ◌≤◌, ◌<◌, min, ◌≡◌, refl, Bool, false, List, [], ◌∷◌, length, get_or, set, take, drop, Option, Some, None}
 use Rattle.std.proofs.Common.{ap, ◌∙◌}
 use Rattle.std.proofs.lemmas.List.Edits.{sets}
 use borrow.Author.Tests.{lt-ltb, le-ltb}
@@ -11,15 +11,12 @@ use Rattle.definition.specs.Table.{beyond, file_at}
 use Rattle.definition.specs.declared.Definition.{Definition}
 use Rattle.definition.specs.declared.File.{File}
 use Rattle.records.specs.Records.{file_size}
-use Rattle.records.specs.declared.Found.{Found}
-use Rattle.records.specs.declared.Found.TheVariants.{At, Nowhere}
 use Rattle.layout.specs.Layout.{file_offset, image_length, place, file_found}
 use Rattle.store.specs.Store.{slot_count, has_record}
 use Rattle.store.specs.Files.{file_part_is}
 use Rattle.entries.specs.Entries.{entries}
 use Rattle.entries.specs.declared.Entry.{Entry}
 use Rattle.queue.specs.Queue.{holder, append}
-use Rattle.queue.specs.declared.Lookup.TheVariants.{Held, Free}
 use Rattle.removal.specs.Removal.{goes, remove_queue, remove_images, remove_count, picked_out}
 use Rattle.removal.proofs.Picking.{entries_picked}
 use Rattle.removal.specs.declared.Removal.{Removal}
@@ -38,16 +35,16 @@ use Rattle.handing.specs.declared.Standing.{Standing}
 
 -- ---- whether there is a record
 module _ (d : Definition) (file isn : ℕ) (store : List ℕ) where
-  abbrev there : Found → Bool
+  abbrev there : Option ℕ → Bool
   there at = has_record (file_found d at) (part_in d at store) isn
 
   -- none in a file that is not in the table
-  pub there_nowhere : place d file ≡ Nowhere → there (place d file) ≡ false
+  pub there_nowhere : place d file ≡ None → there (place d file) ≡ false
   unfolding has_record
   there_nowhere missing = rw missing (and-false (within 1 (slot_count beyond 0) isn))
 
   -- a file's part of a store that is too short ends where the store does
-  pub there_in : (i : ℕ) (f : File) (start size : ℕ) → place d file ≡ At i → f ≡ file_at d i
+  pub there_in : (i : ℕ) (f : File) (start size : ℕ) → place d file ≡ Some i → f ≡ file_at d i
       → start ≡ min (file_offset d i) (length store) → size ≡ min (file_size f) (length store - start)
       → has_record f (take (start + size - start) (drop start store)) isn ≡ there (place d file)
   there_in i f start size found same e_start e_size =
@@ -64,7 +61,7 @@ picked_go queue words table count n which places e_n e_words =
 
 -- ---- who is the first in line
 -- nobody, where nobody waits
-nobody_first : (l : WaitQueue) → l.waiting ≡ 0 → (file isn : ℕ) → first_in_line l file isn ≡ Free
+nobody_first : (l : WaitQueue) → l.waiting ≡ 0 → (file isn : ℕ) → first_in_line l file isn ≡ None
 unfolding holder entries
 nobody_first l none file isn = rw none
 
@@ -74,11 +71,11 @@ module _ (d : Definition) (clock : ℕ) (s : Standing) (kept : List EtData) (ass
 
   -- ---- one record
   module _ (file isn : ℕ) where
-    pub nobody_gets : first_in_line s.wait_queue file isn ≡ Free → handed_on file isn here ≡ here
+    pub nobody_gets : first_in_line s.wait_queue file isn ≡ None → handed_on file isn here ≡ here
     unfolding handed_on
     nobody_gets free = rw free
 
-    module _ (i : ℕ) (w : Entry) (first : first_in_line s.wait_queue file isn ≡ Held i w) where
+    module _ (i : ℕ) (w : Entry) (first : first_in_line s.wait_queue file isn ≡ Some (i, w)) where
       pub no_room : length queue ≤ s.count → handed_on file isn here ≡ here
       unfolding handed_on
       no_room full = rw (first, le-ltb s.count (length queue) full)

@@ -15,8 +15,6 @@ ghost use Rattle.handing.specs.Parts.{nucleus_of};
 use definition::Definition;
 use entries::Entry;
 use nucleus::{MAX_CAPACITY, MAX_USERS, User, WaitQueue};
-use queue::Lookup;
-use records::Found;
 use removal::Removal;
 
 // The part of the state that a back-out and a hand-over may change.
@@ -65,7 +63,7 @@ pub fn record_there(d: Definition, file: u8, isn: u16, store: &[u8]) -> bool
     ensures { result ≡ has_record (file_found d (place d file)) (part_in d (place d file) store.now) isn }
 {
     let found = layout::place(d, file);
-    let Found::At(i) = found else {
+    let Some(i) = found else {
         return false;
     };
     let f = definition::file_at(d, i);
@@ -128,7 +126,7 @@ pub fn hand_on(
 {
     let line = standing.wait_queue;
     let first = waiters::first_in_line(line, file, isn);
-    let Lookup::Held(_, waiter) = first else {
+    let Some((_, waiter)) = first else {
         return standing;
     };
     if standing.count < queue.len() {

@@ -1,10 +1,9 @@
 -- A1, E1, N1 and N2 that no row of the response table refuses: the file and ISN that they are about are the table's; what stands there.
 -- Assumes nothing.
-use Rattle.std.specs.Prelude.{ℕ, zero, suc, ◌+◌, ◌-◌, ◌≤◌, ◌<◌, ◌≡◌, refl, Bool, false, ◌&&◌, List, [], ◌∷◌, ◌++◌, leb, length, get_or}
+use Rattle.std.specs.Prelude.{ℕ, zero, suc, ◌+◌, ◌-◌, ◌≤◌, ◌<◌, ◌≡◌, refl, Bool, false, ◌&&◌, List, [], ◌∷◌, ◌++◌, leb, length, get_or, Option, Some, None}
 use Rattle.std.proofs.Common.{not-suc-le-zero, le_of_suc-le-suc, ◌∙◌, get_or-take}
 use native.Mathlib.Omega.{arith}
 use Rattle.std.proofs.Math.Bool.{true, not}
-use Rattle.std.proofs.Math.Option.{none, some}
 use Rattle.std.proofs.Math.Seq.{length-take-le}
 use borrow.Author.Tests.{leb-true, not-false}
 use Rattle.lists.specs.Tests.{cond, within_least, within_most, Outcome, holds, fails, outcome, not_both, and_left, and_right}
@@ -14,15 +13,11 @@ use Rattle.definition.specs.Shape.{DefinitionShape, file_shape_at}
 use Rattle.definition.specs.declared.File.{File}
 use Rattle.layout.specs.Layout.{store_size, place}
 use Rattle.layout.specs.Laws.{place_found}
-use Rattle.records.specs.declared.Found.{Found}
-use Rattle.records.specs.declared.Found.TheVariants as found_at
 use Rattle.lists.specs.Numbers.{from_to, each_number}
 use Rattle.search.specs.Search.{first_of, lowest}
 use Rattle.store.specs.Store.{record_of}
 use Rattle.store.proofs.Laws.{get_is}
 use Rattle.search.specs.Laws.{lowest_found}
-use Rattle.search.specs.declared.Occupied.{Occupied}
-use Rattle.search.specs.declared.Occupied.TheVariants.{At, Nowhere}
 use Rattle.ground.specs.Keys.{isn_bound, key, file_of, known}
 use Rattle.ground.proofs.Keys.{file_of_key, isn_of_key, known_here}
 use Rattle.ground.specs.Store.{get}
@@ -52,16 +47,16 @@ pub record InFile (f : File) (isn : ℕ) : Type 0 where
   pub least : 1 ≤ isn
   pub most : isn ≤ f.max_isn
 
-found_in : (f : File) (x : Occupied) → is_isn x ≡ true → ((m : ℕ) → x ≡ At m → InFile f m) → InFile f (isn_in x)
-found_in f (At m) t h = h m refl
-found_in f Nowhere t h = not_both false t refl
+found_in : (f : File) (x : Option ℕ) → is_isn x ≡ true → ((m : ℕ) → x ≡ Some m → InFile f m) → InFile f (isn_in x)
+found_in f (Some m) t h = h m refl
+found_in f None t h = not_both false t refl
 
 -- what `first_of` finds is one of the numbers that it looks through
-first_in : (P : ℕ → Type 0) (p : ℕ → Bool) (l : List ℕ) → Each P l → (m : ℕ) → first_of p l ≡ At m → P m
+first_in : (P : ℕ → Type 0) (p : ℕ → Bool) (l : List ℕ) → Each P l → (m : ℕ) → first_of p l ≡ Some m → P m
 first_in P p [] h m e = absurd (let z : ◌≡◌ {A = ℕ} 0 1 = cc in omega arith)
 first_in P p (x ∷ l) h m e = go (outcome (p x)) (first_in P p l h.1 m)
   where
-    go : Outcome (p x) → (first_of p l ≡ At m → P m) → P m
+    go : Outcome (p x) → (first_of p l ≡ Some m → P m) → P m
     go (holds t) later = let here : x ≡ m = cc (rw t at e) in rw (← here) h.0
     go (fails t) later = later (rw t at e)
 
@@ -76,14 +71,14 @@ assigned_most [] (f ∷ fs) i h t = omega arith
 assigned_most (m ∷ isns) (f ∷ fs) zero h t = leb-true m f.max_isn (and_left (leb m f.max_isn) (assigned_made isns fs) t)
 assigned_most (m ∷ isns) (f ∷ fs) (suc i) h t = assigned_most isns fs i (le_of_suc-le-suc h) (and_right (leb m f.max_isn) (assigned_made isns fs) t)
 
-file_there : (x : Found) → is_file x ≡ true → (i : ℕ) × (x ≡ found_at.At i)
-file_there (found_at.At i) h = (i, refl)
-file_there found_at.Nowhere h = not_both false h refl
+file_there : (x : Option ℕ) → is_file x ≡ true → (i : ℕ) × (x ≡ Some i)
+file_there (Some i) h = (i, refl)
+file_there None h = not_both false h refl
 
 -- ---- where the target lies
 pub record Aim (r : Request) (n : Nucleus) : Type 0 where
   pub at : ℕ
-  pub found : place (definition_of n) r.call.file ≡ found_at.At at
+  pub found : place (definition_of n) r.call.file ≡ Some at
   pub in_use : at < file_count (definition_of n)
   pub inside : InFile (file_at (definition_of n) at) (target_isn r n)
   pub small : target_isn r n < isn_bound
@@ -124,7 +119,7 @@ module _ (r : Request) (n : Nucleus) where
       (each_number (InFile (file r n)) (last + 1 - 1) 1 (λ m a b. record { least = omega arith; most = omega arith })))))
 
   module _ (s : DefinitionShape (definition_of n)) where
-    aim_at : (i : ℕ) → place (definition_of n) r.call.file ≡ found_at.At i → InFile (file r n) (target_isn r n) → Aim r n
+    aim_at : (i : ℕ) → place (definition_of n) r.call.file ≡ Some i → InFile (file r n) (target_isn r n) → Aim r n
     aim_at i e inside =
         let d = definition_of n in
         let isn = target_isn r n in
@@ -156,7 +151,7 @@ module _ (r : Request) (n : Nucleus) where
           let x = file_there (file_place r n) (file_known (rw e) (rw e) a.file) in
           aim_at x.0 x.1 (free_inside new (last_fits x.0 x.1) (not-false _ (rest_fails _ _ new a.free)))
         where
-          last_fits : (i : ℕ) → place (definition_of n) r.call.file ≡ found_at.At i → last_given r n ≤ (file r n).max_isn
+          last_fits : (i : ℕ) → place (definition_of n) r.call.file ≡ Some i → last_given r n ≤ (file r n).max_isn
           last_fits i e =
               let d = definition_of n in
               let in_use = (place_found d s r.call.file i e).0 in
@@ -170,12 +165,12 @@ module _ (r : Request) (n : Nucleus) where
       aim assigned (adds_there e) = aim_given (rw e) (rw e) (rw e) (rw e)
 
 -- ---- what stands at an ISN of the call's file
-module _ (r : Request) (n : Nucleus) (i isn : ℕ) (here : place (definition_of n) r.call.file ≡ found_at.At i) where
+module _ (r : Request) (n : Nucleus) (i isn : ℕ) (here : place (definition_of n) r.call.file ≡ Some i) where
   pub file_is : file_of (definition_of n) r.call.file ≡ file r n
   unfolding file_of
   file_is = rw here
 
   pub slot_is : isn < isn_bound → store_size (definition_of n) ≤ length n.store
-      → get (definition_of n) n.store (key r.call.file isn) ≡ cond (record_at r n isn) (some (record_of (file r n) (part r n) isn)) none
+      → get (definition_of n) n.store (key r.call.file isn) ≡ cond (record_at r n isn) (Some (record_of (file r n) (part r n) isn)) None
   slot_is small room =
       get_key (definition_of n) n.store room r.call.file isn i small here ∙ get_is _ _ isn ∙ rw here

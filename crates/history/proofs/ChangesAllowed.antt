@@ -1,11 +1,10 @@
 -- An accepted A1, E1, N1 or N2 is a change that the abstract machine allows: nobody else holds the ISN (145), the record is of the file's width, and
 -- no unique value that it brings is taken (198).
 -- Assumes nothing.
-use Rattle.std.specs.Prelude.{ℕ, ◌≡◌, Bool, true, not, ◌&&◌, ◌||◌, List, [], ◌∷◌, eqb}
+use Rattle.std.specs.Prelude.{ℕ, ◌≡◌, Bool, true, not, ◌&&◌, ◌||◌, List, [], ◌∷◌, eqb, Some}
 use Rattle.std.proofs.Math.Path.{refl}
 use Rattle.std.proofs.Common.{sym, ap, ◌∙◌}
 use Rattle.std.proofs.Math.Bool.{false, and_assoc}
-use Rattle.std.proofs.Math.Option.{some}
 use Rattle.lists.specs.Tests.{eqb_self}
 use Rattle.lists.specs.Folds.{any, any_agree}
 use Rattle.lists.specs.Sift.{any_sift}
@@ -137,7 +136,7 @@ module _ (r : Request) (n : Nucleus) (s : DefinitionShape (definition_of n)) (v 
       ∙ any_agree _ _ field_test (numbers (field_count (file r n)) 0) ∙ rest_fails _ _ brings a.unique
 
   module _ (lent : Lent ℕ) where
-    new_free : one_of bringing_values r.command ≡ true → machine.taken (ground_of lent n) u k change (some new) (seen lent n) ≡ false
+    new_free : one_of bringing_values r.command ≡ true → machine.taken (ground_of lent n) u k change (Some new) (seen lent n) ≡ false
     new_free brings =
         taken_is d s v n.store made.store_room k home (updates d) lent.store change new (rw t.found at (new_width r n s made.store_room t)) u n.queue n.images n.state.count nobody_else
         ∙ rw (isn_is, number_is) (rw t.found at (values_free brings))

@@ -1,22 +1,19 @@
 -- What an accepted A1, E1, N1 or N2 leaves: the store with the new slot at its key, and the queue of the abstract machine with its entry changed.
 -- What `held` does to the queue is asked here (`Holding`).
 -- Assumes nothing.
-use Rattle.std.specs.Prelude.{ℕ, ◌≤◌, ◌<◌, ◌≡◌, refl, Bool, true, false, cond, List, [], map, length, get_or}
+use Rattle.std.specs.Prelude.{ℕ, ◌≤◌, ◌<◌, ◌≡◌, refl, Bool, true, false, cond, List, [], map, length, get_or, Some, None}
 use Rattle.std.proofs.Common.{sym, subst, subst₂, ◌∙◌}
 use Rattle.std.proofs.Math.Path.{ap}
-use Rattle.std.proofs.Math.Option.{none, some}
 use Rattle.std.proofs.Math.Seq.{map-set_same}
 use Rattle.lists.specs.Folds.{all}
 use Rattle.definition.specs.declared.Definition.{Definition}
 use Rattle.layout.specs.Layout.{store_size, place}
-use Rattle.records.specs.declared.Found.TheVariants as found_at
 use Rattle.store.specs.Store.{record_of}
 use Rattle.changes.specs.Changes.{as_changed, change, settled, first_change_queue}
 use Rattle.entries.specs.Entries.{entries}
 use Rattle.entries.specs.Laws.{no_entry}
 use Rattle.changes.specs.Laws.{entries_change}
 use Rattle.entries.specs.declared.Entry.{Entry}
-use Rattle.queue.specs.declared.Lookup.TheVariants.{Held}
 use Rattle.transactions.specs.Slots.{Slot}
 use Rattle.transactions.specs.Machine.{Entry as MachineEntry, with_hold, image_kept}
 use Rattle.lists.specs.Maps.{all_over}
@@ -42,7 +39,7 @@ use Rattle.history.proofs.Changes.{Aim, slot_is}
 pub record HeldHere (capacity : ℕ) (lent : Lent ℕ) (r : Request) (n : Nucleus) (isn : ℕ) : Type 0 where
   pub at : ℕ
   pub entry : Entry
-  pub found : holder_of r (held r isn n) isn ≡ Held at entry
+  pub found : holder_of r (held r isn n) isn ≡ Some (at, entry)
   pub definition : definition_of (held r isn n) ≡ definition_of n
   pub store : (held r isn n).store ≡ n.store
   pub queue : queue_of (definition_of (held r isn n)) (held r isn n).queue (held r isn n).images (held r isn n).state.count
@@ -70,12 +67,12 @@ users_same p es fs h = sym (all_over whose (λ t. p t.0) es) ∙ ap (all (λ t. 
 
 -- ---- the image of an entry that is found
 module _ (capacity : ℕ) (lent : Lent ℕ) (r : Request) (h : Nucleus) (s : Sized capacity lent (definition_of h) h.store h.queue h.images h.state.count)
-    (i isn at : ℕ) (e : Entry) (here : place (definition_of h) r.call.file ≡ found_at.At i) (small : isn < isn_bound) (found_Here : holder_of r h isn ≡ Held at e) where
+    (i isn at : ℕ) (e : Entry) (here : place (definition_of h) r.call.file ≡ Some i) (small : isn < isn_bound) (found_Here : holder_of r h isn ≡ Some (at, e)) where
   abbrev d : Definition
   d = definition_of h
 
   abbrev with_image : Nucleus
-  with_image = imaged_at r (Held at e) isn h
+  with_image = imaged_at r (Some (at, e)) isn h
 
   inside : at < h.state.count
   inside = found_inside d h.queue h.images h.state.count s.made.single r.call.file isn at e found_Here
@@ -120,13 +117,13 @@ module _ (capacity : ℕ) (lent : Lent ℕ) (r : Request) (n : Nucleus) (t : Aim
   h = held r isn n
 
   abbrev image : Nucleus
-  image = imaged_at r (Held w.at w.entry) isn h
+  image = imaged_at r (Some (w.at, w.entry)) isn h
 
   image_is : imaged r isn n ≡ image
   unfolding imaged
   image_is = ap (λ l. imaged_at r l isn h) w.found
 
-  here_held : place (definition_of h) r.call.file ≡ found_at.At t.at
+  here_held : place (definition_of h) r.call.file ≡ Some t.at
   here_held = rw w.definition t.found
 
   room : store_size (definition_of n) ≤ length n.store
@@ -173,10 +170,10 @@ module _ (capacity : ℕ) (lent : Lent ℕ) (r : Request) (n : Nucleus) (t : Aim
   changed_slot : (x : Slot) → Changed capacity lent r n x (with_part_of r (put_in (file r n) (part r n) isn x) (imaged r isn n))
   changed_slot x = subst (λ m. Changed capacity lent r n x (with_part_of r (put_in (file r n) (part r n) isn x) m)) (sym image_is) (changed_image x)
 
-  pub written_changed : Changed capacity lent r n (some (new_record r n isn)) (written r isn n)
+  pub written_changed : Changed capacity lent r n (Some (new_record r n isn)) (written r isn n)
   unfolding written
-  written_changed = changed_slot (some (new_record r n isn))
+  written_changed = changed_slot (Some (new_record r n isn))
 
-  pub erased_changed : Changed capacity lent r n none (erased r isn n)
+  pub erased_changed : Changed capacity lent r n None (erased r isn n)
   unfolding erased
-  erased_changed = changed_slot none
+  erased_changed = changed_slot None

@@ -1,10 +1,9 @@
 -- A1, E1, N1 and N2 that no row of the response table refuses: what the journal logs makes of the slot what the command makes of it.
 -- Assumes nothing.
-use Rattle.std.specs.Prelude.{ℕ, ◌+◌, ◌≤◌, ◌≡◌, Bool, ◌&&◌, List, [], ◌∷◌}
+use Rattle.std.specs.Prelude.{ℕ, ◌+◌, ◌≤◌, ◌≡◌, Bool, ◌&&◌, List, [], ◌∷◌, Some, None}
 use Rattle.std.proofs.Common.{arith, ◌∙◌}
 use Rattle.std.proofs.Math.Path.{refl}
 use Rattle.std.proofs.Math.Bool.{true, false}
-use Rattle.std.proofs.Math.Option.{none, some}
 use Rattle.std.proofs.Math.ListN.{length}
 use borrow.Author.Tests.{not-false}
 use Rattle.lists.specs.Tests.{cond, or_left}
@@ -44,10 +43,10 @@ update_of r (adds e) = add r.format r.buffer
 update_of r (adds_there e) = add r.format r.buffer
 
 abbrev pub slot_of : (r : Request) (n : Nucleus) → Changes r → Slot
-slot_of r n (replaces e) = some (new_record r n (target_isn r n))
-slot_of r n (erases e) = none
-slot_of r n (adds e) = some (new_record r n (target_isn r n))
-slot_of r n (adds_there e) = some (new_record r n (target_isn r n))
+slot_of r n (replaces e) = Some (new_record r n (target_isn r n))
+slot_of r n (erases e) = None
+slot_of r n (adds e) = Some (new_record r n (target_isn r n))
+slot_of r n (adds_there e) = Some (new_record r n (target_isn r n))
 
 module _ (r : Request) (n : Nucleus) (s : DefinitionShape (definition_of n)) (room : store_size (definition_of n) ≤ length n.store) (t : Aim r n) where
   abbrev d : Definition
@@ -62,7 +61,7 @@ module _ (r : Request) (n : Nucleus) (s : DefinitionShape (definition_of n)) (ro
   abbrev old : List ℕ
   old = record_of (file r n) (part r n) isn
 
-  pub target_slot : get d n.store k ≡ cond (record_at r n isn) (some old) none
+  pub target_slot : get d n.store k ≡ cond (record_at r n isn) (Some old) None
   target_slot = slot_is r n t.at isn t.found t.small room
 
   -- what lies in the slot is as wide as the file's records, whether it counts or not

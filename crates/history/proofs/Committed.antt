@@ -1,8 +1,7 @@
 -- The record as ended transactions left it (document 02, No. 8) is the one that backing all users out would leave; and its part has its bytes.
 -- Assumes nothing.
-use Rattle.std.specs.Prelude.{ℕ, ◌<◌, ◌≡◌, refl, Bool, true, false, not, List, [], ◌∷◌, eqb}
+use Rattle.std.specs.Prelude.{ℕ, ◌<◌, ◌≡◌, refl, Bool, true, false, not, List, [], ◌∷◌, eqb, Option, Some, None}
 use Rattle.std.proofs.Common.{arith, sym, ap, ◌∙◌}
-use Rattle.std.proofs.Math.Option.{Option, none}
 use Rattle.lists.specs.Tests.{or-true, Outcome, holds, fails, outcome, within, within_inside, within_least, within_most, not_both}
 use Rattle.lists.specs.Folds.{any, all}
 use Rattle.lists.specs.Sift.{sift}
@@ -11,8 +10,6 @@ use Rattle.definition.specs.Table.{file_at}
 use Rattle.definition.specs.Shape.{file_shape_at}
 use Rattle.definition.specs.declared.File.{File}
 use Rattle.definition.specs.declared.Definition.{Definition}
-use Rattle.records.specs.declared.Found.{Found}
-use Rattle.records.specs.declared.Found.TheVariants.{At, Nowhere}
 use Rattle.layout.specs.Layout.{image_length, place, file_found}
 use Rattle.layout.specs.Laws.{place_found}
 use Rattle.store.specs.Store.{file_part}
@@ -100,13 +97,13 @@ module _ (capacity : ℕ) (lent : Lent ℕ) (b : Database) (j : Journal) (p : Pa
   abbrev k : Kept capacity lent n j
   k = p.kept
 
-  abbrev inside : Found → Bool
+  abbrev inside : Option ℕ → Bool
   inside x = within 1 (file_found d x).max_isn isn
 
   abbrev version : Version
   version = committed_version (entries_of n) file isn
 
-  abbrev committed : Found → Option (List ℕ)
+  abbrev committed : Option ℕ → Option (List ℕ)
   committed x = committed_at d n.store n.images isn version x
 
   -- ---- the part
@@ -115,14 +112,14 @@ module _ (capacity : ℕ) (lent : Lent ℕ) (b : Database) (j : Journal) (p : Pa
   part_bytes =
       rw (k.sized.valid, long_kept capacity lent n j k, well_made_kept capacity lent n j k p.lined) (go (place d file) (outcome (inside (place d file))))
     where
-      go : (x : Found) → Outcome (inside x) → bytes_at (place_in n file isn x) n.store n.images ≡ bytes_of (committed x)
-      go (At i) (holds t) =
+      go : (x : Option ℕ) → Outcome (inside x) → bytes_at (place_in n file isn x) n.store n.images ≡ bytes_of (committed x)
+      go (Some i) (holds t) =
           rw t
           (place_bytes d i n.store n.images (image_length d) version isn
           ∙ slot_bytes (file_at d i) (file_part d i n.store) n.images (image_length d) version isn)
-      go (At i) (fails t) = rw t
-      go Nowhere (holds t) = absurd (omega (arith, within_least 1 0 isn t, within_most 1 0 isn t))
-      go Nowhere (fails t) = rw t
+      go (Some i) (fails t) = rw t
+      go None (holds t) = absurd (omega (arith, within_least 1 0 isn t, within_most 1 0 isn t))
+      go None (fails t) = rw t
 
   -- ---- all users are backed out
   module _ (bs : List BackOut) (everyone : Everyone bs j) where
@@ -152,7 +149,7 @@ module _ (capacity : ℕ) (lent : Lent ℕ) (b : Database) (j : Journal) (p : Pa
         ∙ slot_in capacity lent m (struck_all bs j) after file isn small
 
     -- an ISN of the file: the version is what the machine shows with them backed out, and that is what the journal tells
-    left_inside : (i : ℕ) → place d file ≡ At i → inside (At i) ≡ true → committed (At i) ≡ left lent.definition
+    left_inside : (i : ℕ) → place d file ≡ Some i → inside (Some i) ≡ true → committed (Some i) ≡ left lent.definition
     left_inside i e t =
         let used = (place_found d k.sized.shape file i e).0 in
         let highest = (file_shape_at d k.sized.shape i (omega (arith, used))).small_max_isn in
@@ -162,7 +159,7 @@ module _ (capacity : ℕ) (lent : Lent ℕ) (b : Database) (j : Journal) (p : Pa
         ∙ k.invariant.agree (out bs) (key file isn) ∙ told_left small ∙ ap left after.sized.same_table)
 
     -- any other has no record
-    left_outside : inside (place d file) ≡ false → left lent.definition ≡ none
+    left_outside : inside (place d file) ≡ false → left lent.definition ≡ None
     left_outside t =
         ap left (sym k.sized.same_table)
         ∙ get_outside (file_numbered d file) (part_in d (place d file) m.store) isn
@@ -171,7 +168,7 @@ module _ (capacity : ℕ) (lent : Lent ℕ) (b : Database) (j : Journal) (p : Pa
     pub committed_left : committed_of n file isn ≡ record_after capacity lent.definition bs b file isn
     committed_left = go (place d file) refl (outcome (inside (place d file)))
       where
-        go : (x : Found) → place d file ≡ x → Outcome (inside x) → committed x ≡ left lent.definition
-        go (At i) e (holds t) = left_inside i e t
-        go Nowhere e (holds t) = absurd (omega (arith, within_least 1 0 isn t, within_most 1 0 isn t))
+        go : (x : Option ℕ) → place d file ≡ x → Outcome (inside x) → committed x ≡ left lent.definition
+        go (Some i) e (holds t) = left_inside i e t
+        go None e (holds t) = absurd (omega (arith, within_least 1 0 isn t, within_most 1 0 isn t))
         go x e (fails t) = rw t (sym (left_outside (rw e t)))

@@ -1,10 +1,9 @@
 -- An L1 with option `C` (document 02, No. 8): answered 0 it has read the record as ended transactions left it, answered 113 there is none; of the
 -- nucleus that the call leaves.
 -- Assumes nothing.
-use Rattle.std.specs.Prelude.{ℕ, ◌≡◌, Bool, true, false, not, ◌&&◌, ◌||◌, List, eqb}
+use Rattle.std.specs.Prelude.{ℕ, ◌≡◌, Bool, true, false, not, ◌&&◌, ◌||◌, List, eqb, Option, Some, None}
 use Rattle.std.proofs.Common.{arith, sym, ◌∙◌}
 use Rattle.std.proofs.Math.Path.{refl, ap, subst}
-use Rattle.std.proofs.Math.Option.{Option, none, some}
 use Rattle.std.proofs.lemmas.Bool.{eqb-false, not-false, not-true}
 use Rattle.lists.specs.Tests.{cond, Outcome, holds, fails, outcome, within, not_both, and_left, and_right, or_left}
 use Rattle.lists.specs.Folds.{all}
@@ -49,10 +48,10 @@ module _ (c : Command) where
   ended_rows rs h n next e = go (first_cause rs) refl
     where
       go : (x : Option Response) → first_cause rs ≡ x → Ended c (unless_refused x n next)
-      go (some cause) f = away cause n (first_such otherwise rs h cause f)
-      go none f = e
+      go (Some cause) f = away cause n (first_such otherwise rs h cause f)
+      go None f = e
 
-  ended : (capacity : ℕ) (call : Call) (n : Nucleus) → command_of direct_commands call.command ≡ some c → Ended c (admitted direct_commands capacity call n)
+  ended : (capacity : ℕ) (call : Call) (n : Nucleus) → command_of direct_commands call.command ≡ Some c → Ended c (admitted direct_commands capacity call n)
   unfolding admitted admitted_user admitted_session rows_usable rows_understood
   ended capacity call n known =
       let m = clocked call.clock (left_by c call n) in
@@ -102,22 +101,22 @@ module _ (capacity : ℕ) (g : Given) (option : g.call.option ≡ option_C) (que
   presence_row = rw (target_given, version_committed)
 
   -- refused
-  not_zero : (c : Response) → first_cause (rows_last r n) ≡ some c → number c ≡ 0 → ⊥
+  not_zero : (c : Response) → first_cause (rows_last r n) ≡ Some c → number c ≡ 0 → ⊥
   not_zero c e z = not_both false (first_holds 0 (rows_last r n) c e z) refl
 
-  none_there : (c : Response) → first_cause (rows_last r n) ≡ some c → number c ≡ 113 → x ≡ none
+  none_there : (c : Response) → first_cause (rows_last r n) ≡ Some c → number c ≡ 113 → x ≡ None
   none_there c e z = go (outcome inside) (outcome is_there)
     where
       either : (isn_invalid r n || (presence_refused r n || false)) ≡ true
       either = first_holds 113 (rows_last r n) c e z
 
-      go : Outcome inside → Outcome is_there → x ≡ none
+      go : Outcome inside → Outcome is_there → x ≡ None
       go (fails t) y = rw t
       go (holds t) (fails y) = rw (t, y)
       go (holds t) (holds y) = not_both false (rw (isn_row, presence_row, t, y) at either) refl
 
   -- performed
-  some_there : Accepted r n → x ≡ some bytes
+  some_there : Accepted r n → x ≡ Some bytes
   some_there a =
       let t : inside ≡ true = not-false inside (sym isn_row ∙ a.isn) in
       let y : is_there ≡ true = not-false is_there (or_left (not is_there) false (sym presence_row ∙ a.presence)) in
@@ -128,12 +127,12 @@ module _ (capacity : ℕ) (g : Given) (option : g.call.option ≡ option_C) (que
   reads_performed = go (first_cause (rows_last r n)) refl
     where
       go : (y : Option Response) → first_cause (rows_last r n) ≡ y → ReadsLeft capacity queue g (unless y (refusal r.buffer n) (effect r n))
-      go (some c) e = record {
+      go (Some c) e = record {
         there = λ z. absurd (not_zero c e z);
         fields_read = λ z. absurd (not_zero c e z);
         not_there = none_there c e;
       }
-      go none e =
+      go None e =
           let a = accepted r n (ap is_cause e) in
           record {
             there = λ z. ap is_record (some_there a);

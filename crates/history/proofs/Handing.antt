@@ -1,10 +1,9 @@
 -- The hand-over (document 02, No. 1): what was let go, of which the journal has the same, is handed to the first in line of each record. What is kept stays
 -- so, nobody waits for it then who is not handed it, and nobody becomes overdue.
 -- Assumes nothing.
-use Rattle.std.specs.Prelude.{ℕ, ◌+◌, ◌-◌, ◌≤◌, ◌<◌, ◌≡◌, Bool, true, false, not, List, [], ◌∷◌, ◌++◌, map, eqb, length, set}
+use Rattle.std.specs.Prelude.{ℕ, ◌+◌, ◌-◌, ◌≤◌, ◌<◌, ◌≡◌, Bool, true, false, not, List, [], ◌∷◌, ◌++◌, map, eqb, length, set, Option, Some, None}
 use Rattle.std.proofs.Common.{arith, ◌∙◌, get_or-set_same, get_or-set_other}
 use Rattle.std.proofs.Math.Path.{refl}
-use Rattle.std.proofs.Math.Option.{none, some}
 use borrow.Author.Tests.{eqb-true, eqb-false, not-true, lt-ltb}
 use Rattle.lists.specs.Tests.{Outcome, holds, fails, outcome, not_both, and_left, and_right, or_left, or_right}
 use Rattle.lists.specs.Folds.{any, all, any_append, distinct, Each}
@@ -13,8 +12,6 @@ use Rattle.entries.specs.Laws.{Shape}
 use Rattle.entries.specs.declared.Entry.{Entry}
 use Rattle.queue.specs.Queue.{holder}
 use Rattle.queue.specs.Laws.{is_held, held_any}
-use Rattle.queue.specs.declared.Lookup.{Lookup}
-use Rattle.queue.specs.declared.Lookup.TheVariants.{Held, Free}
 use Rattle.repeats.specs.Repeats.{alike}
 use Rattle.ground.specs.Keys.{key, known}
 use Rattle.ground.specs.Queue.{entry_known}
@@ -98,11 +95,11 @@ module _ (capacity : ℕ) (lent : Lent ℕ) where
     none_holds : any (is_of file isn) (entries_of n) ≡ false
     none_holds = not-true _ (and_left (not (any (is_of file isn) (entries_of n))) (all (λ (f : Entry). not (any (is_of f.file f.isn) (entries_of n))) es) h.free)
 
-    lookup_free : (x : Lookup) → is_held x ≡ false → x ≡ Free
-    lookup_free (Held i w) t = not_both true refl t
-    lookup_free Free t = refl
+    lookup_free : (x : Option (ℕ × Entry)) → is_held x ≡ false → x ≡ None
+    lookup_free (Some (i, w)) t = not_both true refl t
+    lookup_free None t = refl
 
-    found_free : holder (entries_of n) file isn ≡ Free
+    found_free : holder (entries_of n) file isn ≡ None
     found_free = lookup_free _ (held_any file isn (entries_of n) ∙ none_holds)
 
     known_here : known (definition_of n) (key file isn) ≡ true
@@ -112,7 +109,7 @@ module _ (capacity : ℕ) (lent : Lent ℕ) where
     place_left = omega (arith, h.room, k.sized.made.queue_room)
 
     -- nobody waits for it
-    free_none : first_in_line n.state.wait_queue file isn ≡ Free → Handed es n j n j
+    free_none : first_in_line n.state.wait_queue file isn ≡ None → Handed es n j n j
     free_none f = record { kept = k; lined = lined_none l f; clock = refl; quiet = λ v q. q; apart = λ v least q. refl }
 
     handable_none : Handable capacity es n
@@ -125,7 +122,7 @@ module _ (capacity : ℕ) (lent : Lent ℕ) where
     }
 
     -- one who waits
-    module _ (i : ℕ) (w : Entry) (f : first_in_line n.state.wait_queue file isn ≡ Held i w) where
+    module _ (i : ℕ) (w : Entry) (f : first_in_line n.state.wait_queue file isn ≡ Some (i, w)) where
       abbrev u : ℕ
       u = w.user
 
@@ -150,7 +147,7 @@ module _ (capacity : ℕ) (lent : Lent ℕ) where
       abbrev j' : Journal
       j' = with_holds (j.holds ++ record { user = u; file = file; isn = isn; changed = false } ∷ []) (others u j.line) j
 
-      kept_taken : Kept capacity lent (taking u file isn n) (log_handed_to (some u) file isn j)
+      kept_taken : Kept capacity lent (taking u file isn n) (log_handed_to (Some u) file isn j)
       kept_taken =
           kept_anew capacity lent (left u n) j'
           (kept_line capacity lent n j' (kept_holds capacity lent n j k j'.holds j'.line) (left_line u n.state.wait_queue))
@@ -167,7 +164,7 @@ module _ (capacity : ℕ) (lent : Lent ℕ) where
       entries_then : entries_of (taking u file isn n) ≡ entries_of n ++ taken u e (record_there n file isn) ∷ []
       entries_then = entries_taking l f place_left h.shapes.0
 
-      taken_over : Handed es n j (taking u file isn n) (log_handed_to (some u) file isn j)
+      taken_over : Handed es n j (taking u file isn n) (log_handed_to (Some u) file isn j)
       unfolding log_start
       taken_over = record {
         kept = kept_taken;
@@ -197,10 +194,10 @@ module _ (capacity : ℕ) (lent : Lent ℕ) where
     unfolding handed_on log_handed_on
     handed_one = go (first_in_line n.state.wait_queue file isn) refl
       where
-        go : (x : Lookup) → first_in_line n.state.wait_queue file isn ≡ x
+        go : (x : Option (ℕ × Entry)) → first_in_line n.state.wait_queue file isn ≡ x
             → Handed es n j (handed_to x file isn n) (log_handed_to (next_user file isn j.line) file isn j) × Handable capacity es (handed_to x file isn n)
-        go Free f = rw (next_none l file isn f) (free_none f, handable_none)
-        go (Held i w) f = rw (next_first l file isn f, lt-ltb n.state.count (length n.queue) place_left) (taken_over i w f, handable_taken i w f)
+        go None f = rw (next_none l file isn f) (free_none f, handable_none)
+        go (Some (i, w)) f = rw (next_first l file isn f, lt-ltb n.state.count (length n.queue) place_left) (taken_over i w f, handable_taken i w f)
 
   -- ---- all of them
   pub handed_over : (es : List Entry) (n : Nucleus) (j : Journal) → Kept capacity lent n j → Lined es n j → Handable capacity es n

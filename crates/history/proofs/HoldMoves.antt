@@ -1,6 +1,6 @@
 -- A hold in a nucleus as the abstract machine's: a new entry at the end of the queue, unless the caller has one.
 -- Assumes nothing.
-use Rattle.std.specs.Prelude.{ℕ, ◌<◌, ◌≡◌, Bool, not, [], ◌∷◌, ◌++◌, eqb, length}
+use Rattle.std.specs.Prelude.{ℕ, ◌<◌, ◌≡◌, Bool, not, [], ◌∷◌, ◌++◌, eqb, length, Option, Some, None}
 use Rattle.std.proofs.Common.{arith, sym, ◌∙◌, eqb-true}
 use Rattle.std.proofs.Math.Path.{refl, ap}
 use Rattle.std.proofs.Math.Bool.{true, false, cond}
@@ -12,8 +12,6 @@ use Rattle.queue.specs.Queue.{holder}
 use Rattle.entries.specs.Laws.{Shape}
 use Rattle.queue.specs.Laws.{entries_append}
 use Rattle.entries.specs.declared.Entry.{Entry}
-use Rattle.queue.specs.declared.Lookup.{Lookup}
-use Rattle.queue.specs.declared.Lookup.TheVariants.{Held, Free}
 use Rattle.transactions.specs.Machine as machine
 use Rattle.ground.specs.Keys.{isn_bound, key, known}
 use Rattle.ground.proofs.Keys.{known_found, file_of_key}
@@ -37,24 +35,24 @@ module _ (d : Definition) (shape : DefinitionShape d) (file isn : ℕ) where
 
 -- ---- who holds
 -- an entry that a user holds
-pub record His (u : ℕ) (l : Lookup) : Type 0 where
+pub record His (u : ℕ) (l : Option (ℕ × Entry)) : Type 0 where
   pub at : ℕ
   pub entry : Entry
-  pub found : l ≡ Held at entry
+  pub found : l ≡ Some (at, entry)
   pub user : entry.user ≡ u
 
-pub his_entry : (u : ℕ) (l : Lookup) → is_holder u l ≡ true → His u l
-his_entry u (Held i e) h = record { at = i; entry = e; found = refl; user = eqb-true e.user u h }
-his_entry u Free h = not_both false h refl
+pub his_entry : (u : ℕ) (l : Option (ℕ × Entry)) → is_holder u l ≡ true → His u l
+his_entry u (Some (i, e)) h = record { at = i; entry = e; found = refl; user = eqb-true e.user u h }
+his_entry u None h = not_both false h refl
 
 -- neither his nor another's
-pub nobodys : (u : ℕ) (l : Lookup) → is_holder u l ≡ false → other_holds u l ≡ false → l ≡ Free
-nobodys u (Held i e) h o = not_both (eqb e.user u) (not-false (eqb e.user u) o) h
-nobodys u Free h o = refl
+pub nobodys : (u : ℕ) (l : Option (ℕ × Entry)) → is_holder u l ≡ false → other_holds u l ≡ false → l ≡ None
+nobodys u (Some (i, e)) h o = not_both (eqb e.user u) (not-false (eqb e.user u) o) h
+nobodys u None h o = refl
 
-passes_other : (u : ℕ) (l : Lookup) → found_passes (λ v. not (eqb v u)) l ≡ other_holds u l
-passes_other u (Held i e) = refl
-passes_other u Free = refl
+passes_other : (u : ℕ) (l : Option (ℕ × Entry)) → found_passes (λ v. not (eqb v u)) l ≡ other_holds u l
+passes_other u (Some (i, e)) = refl
+passes_other u None = refl
 
 -- ---- the two ways of a hold
 module _ (r : Request) (isn : ℕ) (n : Nucleus) where
@@ -118,7 +116,7 @@ module _ (n : Nucleus) (capacity : ℕ) (made : MadeIn capacity n) where
 
     -- where he has no entry yet
     module _ (none : is_holder u (holder_of r n isn) ≡ false) where
-      free : holder_of r n isn ≡ Free
+      free : holder_of r n isn ≡ None
       free = nobodys u (holder_of r n isn) none mine
 
       place_left : n.state.count < length n.queue
@@ -131,7 +129,7 @@ module _ (n : Nucleus) (capacity : ℕ) (made : MadeIn capacity n) where
       seen_anew = queue_hold (definition_of n) n.queue n.images n.state.count new new_shape refl place_left free
 
       -- the entry is the last one
-      found_anew : holder_of r (held r isn n) isn ≡ Held n.state.count new
+      found_anew : holder_of r (held r isn n) isn ≡ Some (n.state.count, new)
       found_anew = rw (held_new r isn n none) (holder_new n.queue n.state.count new new_shape place_left free)
 
     pub seen_held : queue_seen (held r isn n) ≡ machine.with_hold u k (queue_seen n)

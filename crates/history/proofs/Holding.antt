@@ -1,14 +1,12 @@
 -- What is kept where a call holds an ISN: its user is in a transaction from then on, or was already.
 -- Assumes nothing.
-use Rattle.std.specs.Prelude.{ℕ, ◌-◌, ◌≤◌, ◌<◌, ◌≡◌, refl, true, false, ◌&&◌, List, [], ◌∷◌, set}
+use Rattle.std.specs.Prelude.{ℕ, ◌-◌, ◌≤◌, ◌<◌, ◌≡◌, refl, true, false, ◌&&◌, List, [], ◌∷◌, set, Option, Some, None}
 use Rattle.std.proofs.Common.{arith, sym, ◌∙◌, leb-false}
 use Rattle.std.proofs.Math.Path.{ap}
 use Rattle.lists.specs.Tests.{within, Outcome, holds, fails, outcome, within_inside, and_right}
 use Rattle.lists.specs.Folds.{all_at, all_append}
 use Rattle.entries.specs.Laws.{no_entry}
 use Rattle.queue.specs.Laws.{held_found}
-use Rattle.search.specs.declared.Occupied.{Occupied}
-use Rattle.search.specs.declared.Occupied.TheVariants.{At, Nowhere}
 use Rattle.transactions.specs.Machine.{hold, with_hold, act, log}
 use Rattle.transactions.specs.Theorems.{Invariant}
 use Rattle.transactions.proofs.Theorems.{kept_act}
@@ -49,9 +47,9 @@ pub record Holdable (capacity : ℕ) (r : Request) (isn : ℕ) (n : Nucleus) : T
   pub room : is_holder r.call.user (holder_of r n isn) ≡ false → n.state.count < capacity
 
 -- what is not 0 was found
-isn_there : (x : Occupied) → 1 ≤ isn_in x → is_isn x ≡ true
-isn_there (At isn) h = refl
-isn_there Nowhere h = absurd (omega arith)
+isn_there : (x : Option ℕ) → 1 ≤ isn_in x → is_isn x ≡ true
+isn_there (Some isn) h = refl
+isn_there None h = absurd (omega arith)
 
 -- so is the ISN of an accepted command that holds: rows 145 and 70
 pub holdable_at : (r : Request) (n : Nucleus) → Accepted r n → one_of holding r.command ≡ true → Aim r n

@@ -1,6 +1,6 @@
 -- Holds and lines (`Lined`) where a record is changed: the hold of the record is marked, in the queue and in the journal; who holds stays as it was.
 -- Assumes nothing.
-use Rattle.std.specs.Prelude.{ℕ, zero, suc, ◌+◌, ◌<◌, ◌≡◌, Bool, true, false, not, cond, ◌||◌, eqb, length, get_or}
+use Rattle.std.specs.Prelude.{ℕ, zero, suc, ◌+◌, ◌<◌, ◌≡◌, Bool, true, false, not, cond, ◌||◌, eqb, length, get_or, Some}
 use Rattle.std.proofs.Common.{suc-le-suc, le_of_suc-le-suc, not-suc-le-zero, arith, ◌∙◌, eqb-true}
 use Rattle.std.proofs.Math.Path.{refl, sym, ap}
 use Rattle.std.proofs.Math.Bool.{or-false}
@@ -16,7 +16,6 @@ use Rattle.entries.specs.Laws.{no_entry, length_entries}
 use Rattle.entries.specs.declared.Entry.{Entry}
 use Rattle.queue.specs.Queue.{seek, holder}
 use Rattle.queue.specs.Laws.{Found, held_found, is_of_swap}
-use Rattle.queue.specs.declared.Lookup.TheVariants.{Held}
 use Rattle.changes.specs.Changes.{as_changed, change, settled, first_change_queue}
 use Rattle.changes.specs.Laws.{entries_change, settled_at}
 use Rattle.repeats.specs.Repeats.{alike, repeated}
@@ -39,7 +38,7 @@ other_seek u file isn [] i = refl
 other_seek u file isn (e ∷ es) i = go (is_of file isn e) (other_seek u file isn es (i + 1))
   where
     go : (b : Bool) → other_holds u (seek file isn es (i + 1)) ≡ holds_other u file isn (map hold_seen es)
-        → other_holds u (cond b (Held i e) (seek file isn es (i + 1))) ≡ cond b (not (eqb e.user u)) (holds_other u file isn (map hold_seen es))
+        → other_holds u (cond b (Some (i, e)) (seek file isn es (i + 1))) ≡ cond b (not (eqb e.user u)) (holds_other u file isn (map hold_seen es))
     go true later = refl
     go false later = later
 
@@ -87,7 +86,7 @@ module _ (file isn : ℕ) where
       )
 
   -- ---- the first change, or a later one, of the entry that is found
-  module _ (words : List ℕ) (count : ℕ) (single : repeated (entries words count) ≡ false) {at : ℕ} {e : Entry} (found : holder (entries words count) file isn ≡ Held at e) (existed : Bool) where
+  module _ (words : List ℕ) (count : ℕ) (single : repeated (entries words count) ≡ false) {at : ℕ} {e : Entry} (found : holder (entries words count) file isn ≡ Some (at, e)) (existed : Bool) where
     abbrev es : List Entry
     es = entries words count
 
@@ -122,7 +121,7 @@ module _ (file isn : ℕ) where
             ∙ map_set hold_seen es at (as_changed existed e) ∙ sym marked)
 
 -- ---- the image of an entry that is found is kept
-pub lined_imaged : {gone : List Entry} {n : Nucleus} {j : Journal} → Lined gone n j → (capacity : ℕ) → MadeIn capacity n → (r : Request) (isn : ℕ) {at : ℕ} {e : Entry} → holder_of r n isn ≡ Held at e
-    → Lined gone (imaged_at r (Held at e) isn n) (log_mark r.call.file isn j)
+pub lined_imaged : {gone : List Entry} {n : Nucleus} {j : Journal} → Lined gone n j → (capacity : ℕ) → MadeIn capacity n → (r : Request) (isn : ℕ) {at : ℕ} {e : Entry} → holder_of r n isn ≡ Some (at, e)
+    → Lined gone (imaged_at r (Some (at, e)) isn n) (log_mark r.call.file isn j)
 lined_imaged {n = n} l capacity made r isn found =
     lined_marked r.call.file isn l (holds_marked r.call.file isn n.queue n.state.count made.single found _) refl refl

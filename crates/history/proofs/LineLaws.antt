@@ -1,7 +1,7 @@
 -- What is asked of a line, by the lists that it speaks of (`Fair`), through each thing that is done to them: a user changes, one leaves or joins, entries
 -- go, come or change, a hold is handed over.
 -- Assumes nothing.
-use Rattle.std.specs.Prelude.{ℕ, ◌+◌, ◌-◌, ◌*◌, ◌≤◌, ◌<◌, ◌≡◌, refl, Bool, true, false, not, ◌&&◌, ◌||◌, eqb, length, set}
+use Rattle.std.specs.Prelude.{ℕ, ◌+◌, ◌-◌, ◌*◌, ◌≤◌, ◌<◌, ◌≡◌, refl, Bool, true, false, not, ◌&&◌, ◌||◌, eqb, length, set, Option, Some, None}
 use Rattle.std.proofs.Common.{arith, sym, ap, ◌∙◌, eqb-true, le-leb}
 use Rattle.std.proofs.Math.Bool.{or-false}
 use mathlib.Core.List.{List, [], ◌∷◌, ◌++◌, map, map-append}
@@ -18,8 +18,6 @@ use Rattle.entries.specs.Laws.{Shape, no_entry, length_entries}
 use Rattle.entries.specs.declared.Entry.{Entry}
 use Rattle.queue.specs.Queue.{seek, holder, append}
 use Rattle.queue.specs.Laws.{is_held, held_found, free_none, holder_front, holder_last, is_of_swap, entries_append, length_append_entry}
-use Rattle.queue.specs.declared.Lookup.{Lookup}
-use Rattle.queue.specs.declared.Lookup.TheVariants.{Held, Free}
 use Rattle.removal.specs.Removal.{fits}
 use Rattle.removal.specs.Laws.{entries_remove, length_remove_queue, remove_count_most, remove_none_queue, remove_none_count}
 use Rattle.removal.specs.declared.Removal.TheVariants.{All}
@@ -166,9 +164,9 @@ pub fair_removed : {es : List Entry} {l : WaitQueue} {us : List User} → Fair [
 fair_removed {es} f p = fair_as f (awaited_left p es)
 
 -- ---- entries come
-other_held : (u : ℕ) (l : Lookup) → other_holds u l ≡ true → is_held l ≡ true
-other_held u (Held i e) h = refl
-other_held u Free h = h
+other_held : (u : ℕ) (l : Option (ℕ × Entry)) → other_holds u l ≡ true → is_held l ≡ true
+other_held u (Some (i, e)) h = refl
+other_held u None h = h
 
 -- whoever is waited for holds still
 awaited_more : (gone es fs : List Entry) (w : Entry) → awaited gone es w ≡ true → awaited gone (es ++ fs) w ≡ true
@@ -192,7 +190,7 @@ waited_none e gone es (w ∷ ws) n h =
     let here : awaited gone es w ≡ true = rw apart at (and_left (awaited (e ∷ gone) es w) (all (awaited (e ∷ gone) es) ws) h) in
     rw here (waited_none e gone es ws (or_right (is_of e.file e.isn w) (any (is_of e.file e.isn) ws) n) (and_right (awaited (e ∷ gone) es w) (all (awaited (e ∷ gone) es) ws) h))
 
-pub fair_none : {gone es : List Entry} {l : WaitQueue} {us : List User} {e : Entry} → Fair (e ∷ gone) es l us → first_in_line l e.file e.isn ≡ Free → Fair gone es l us
+pub fair_none : {gone es : List Entry} {l : WaitQueue} {us : List User} {e : Entry} → Fair (e ∷ gone) es l us → first_in_line l e.file e.isn ≡ None → Fair gone es l us
 fair_none {gone} {es} {l} {us} {e} f free = fair_waited f (waited_none e gone es (waiters_in l) (free_none e.file e.isn (waiters_in l) free) f.waited)
 
 -- who is first, and may be handed it
@@ -206,7 +204,7 @@ pub record First (l : WaitQueue) (us : List User) (file isn : ℕ) (w : Entry) :
   pub not_overdue : (one_of_users us w.user).overdue ≡ false
   pub changing : (one_of_users us w.user).access_only ≡ false
 
-pub first_sound : {gone es : List Entry} {l : WaitQueue} {us : List User} → Fair gone es l us → {file isn i : ℕ} {w : Entry} → first_in_line l file isn ≡ Held i w → First l us file isn w
+pub first_sound : {gone es : List Entry} {l : WaitQueue} {us : List User} → Fair gone es l us → {file isn i : ℕ} {w : Entry} → first_in_line l file isn ≡ Some (i, w) → First l us file isn w
 first_sound {gone} {es} {l} {us} f {file} {isn} {i} {w} found =
     let at = held_found file isn (waiters_in l) i w found in
     let mine : waiter_sound us w ≡ true = rw at.stands at (all_at (waiter_sound us) (waiters_in l) no_entry f.sound i at.inside) in
@@ -224,7 +222,7 @@ first_sound {gone} {es} {l} {us} f {file} {isn} {i} {w} found =
     }
 
 -- the others, of its line and of other lines: `new` holds the record of `e`
-awaited_taken : (gone es : List Entry) (new e w : Entry) → e.file ≡ new.file → e.isn ≡ new.isn → holder es new.file new.isn ≡ Free
+awaited_taken : (gone es : List Entry) (new e w : Entry) → e.file ≡ new.file → e.isn ≡ new.isn → holder es new.file new.isn ≡ None
     → not (is_user new.user w) ≡ true → awaited (e ∷ gone) es w ≡ true → awaited gone (es ++ new ∷ []) w ≡ true
 awaited_taken gone es new e w same_file same_isn free other h = go (outcome (is_of w.file w.isn e))
   where
@@ -237,7 +235,7 @@ awaited_taken gone es new e w same_file same_isn free other h = go (outcome (is_
     go (fails t) = awaited_more gone es (new ∷ []) w (rw t at h)
 
 pub fair_taken : {gone es : List Entry} {l : WaitQueue} {us : List User} {e : Entry} → Fair (e ∷ gone) es l us → (new : Entry) (x : User)
-    → e.file ≡ new.file → e.isn ≡ new.isn → holder es new.file new.isn ≡ Free → length us ≡ max_users → 1 ≤ new.user → new.user ≤ max_users
+    → e.file ≡ new.file → e.isn ≡ new.isn → holder es new.file new.isn ≡ None → length us ≡ max_users → 1 ≤ new.user → new.user ≤ max_users
     → Fair gone (es ++ new ∷ []) (left_line new.user l) (set us (new.user - 1) x)
 fair_taken {gone} {es} {l} {us} {e} f new x same_file same_isn free full least most =
     let rest = waiters_left new.user l (fair_room f) in

@@ -1,18 +1,15 @@
 -- Holds and lines (`Lined`) where a hold is handed over: one entry that was let go, whose record goes to the first in its line, or to nobody.
 -- Assumes nothing.
-use Rattle.std.specs.Prelude.{ℕ, ◌+◌, ◌-◌, ◌<◌, ◌≡◌, refl, Bool, false, List, [], ◌∷◌, ◌++◌, map, length, set}
+use Rattle.std.specs.Prelude.{ℕ, ◌+◌, ◌-◌, ◌<◌, ◌≡◌, refl, Bool, false, List, [], ◌∷◌, ◌++◌, map, length, set, Option, Some, None}
 use Rattle.std.proofs.Common.{arith, sym, ◌∙◌}
 use Rattle.std.proofs.Math.Path.{ap}
 use Rattle.std.proofs.lemmas.List.{map-append}
-use Rattle.std.proofs.Math.Option.{Option, none, some}
 use Rattle.lists.specs.Tests.{Outcome, holds, fails, outcome}
 use Rattle.entries.specs.Entries.{is_of}
 use Rattle.entries.specs.Laws.{Shape}
 use Rattle.entries.specs.declared.Entry.{Entry}
 use Rattle.queue.specs.Queue.{seek, holder}
 use Rattle.queue.specs.Laws.{entries_append}
-use Rattle.queue.specs.declared.Lookup.{Lookup}
-use Rattle.queue.specs.declared.Lookup.TheVariants.{Held, Free}
 use Rattle.nucleus.specs.Nucleus.{Nucleus, max_users, entries_of}
 use Rattle.nucleus.specs.Waiters.{waiters_of, first_in_line, left_line, record_there, taking}
 use Rattle.nucleus.specs.declared.User.{User}
@@ -22,9 +19,9 @@ use Rattle.history.proofs.LineLaws.{First, first_sound, fair_none, fair_taken}
 use Rattle.history.proofs.Lines.{fair, lined, others_same}
 
 -- ---- who is next
-abbrev user_found : Lookup → Option ℕ
-user_found (Held i w) = some w.user
-user_found Free = none
+abbrev user_found : Option (ℕ × Entry) → Option ℕ
+user_found (Some (i, w)) = Some w.user
+user_found None = None
 
 next_seek : (file isn : ℕ) (ws : List Entry) (i : ℕ) → next_user file isn (map waiter_seen ws) ≡ user_found (seek file isn ws i)
 next_seek file isn [] i = refl
@@ -41,14 +38,14 @@ module _ {gone : List Entry} {n : Nucleus} {j : Journal} (l : Lined gone n j) (f
   unfolding holder
   next_same = ap (next_user file isn) (sym l.same_line) ∙ next_seek file isn (waiters_of n) 0
 
-  pub next_none : first_in_line n.state.wait_queue file isn ≡ Free → next_user file isn j.line ≡ none
+  pub next_none : first_in_line n.state.wait_queue file isn ≡ None → next_user file isn j.line ≡ None
   next_none free = next_same ∙ ap user_found free
 
-  pub next_first : {i : ℕ} {w : Entry} → first_in_line n.state.wait_queue file isn ≡ Held i w → next_user file isn j.line ≡ some w.user
+  pub next_first : {i : ℕ} {w : Entry} → first_in_line n.state.wait_queue file isn ≡ Some (i, w) → next_user file isn j.line ≡ Some w.user
   next_first found = next_same ∙ ap user_found found
 
   -- he waits, and may be handed it
-  pub lined_first : {i : ℕ} {w : Entry} → first_in_line n.state.wait_queue file isn ≡ Held i w → First n.state.wait_queue n.state.users file isn w
+  pub lined_first : {i : ℕ} {w : Entry} → first_in_line n.state.wait_queue file isn ≡ Some (i, w) → First n.state.wait_queue n.state.users file isn w
   lined_first found = first_sound (fair l) found
 
 -- ---- one entry
@@ -57,17 +54,17 @@ abbrev pub taken : ℕ → Entry → Bool → Entry
 taken u e existed = record { user = u; file = e.file; isn = e.isn; changed = false; existed = existed }
 
 module _ {gone : List Entry} {n : Nucleus} {j : Journal} {e : Entry} (l : Lined (e ∷ gone) n j) where
-  pub lined_none : first_in_line n.state.wait_queue e.file e.isn ≡ Free → Lined gone n j
+  pub lined_none : first_in_line n.state.wait_queue e.file e.isn ≡ None → Lined gone n j
   lined_none free = lined (fair_none (fair l) free) refl refl refl l.same_holds l.same_line
 
-  module _ {i : ℕ} {w : Entry} (found : first_in_line n.state.wait_queue e.file e.isn ≡ Held i w) where
+  module _ {i : ℕ} {w : Entry} (found : first_in_line n.state.wait_queue e.file e.isn ≡ Some (i, w)) where
     abbrev u : ℕ
     u = w.user
 
     abbrev first : First n.state.wait_queue n.state.users e.file e.isn w
     first = lined_first l e.file e.isn found
 
-    pub lined_taken : length n.state.users ≡ max_users → holder (entries_of n) e.file e.isn ≡ Free
+    pub lined_taken : length n.state.users ≡ max_users → holder (entries_of n) e.file e.isn ≡ None
         → {m : Nucleus} (existed : Bool) (x : User) → entries_of m ≡ entries_of n ++ taken u e existed ∷ []
         → m.state.wait_queue ≡ left_line u n.state.wait_queue → m.state.users ≡ set n.state.users (u - 1) x
         → Lined gone m (with_holds (j.holds ++ hold_seen (taken u e existed) ∷ []) (others u j.line) j)

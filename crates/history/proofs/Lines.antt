@@ -1,11 +1,10 @@
 -- Holds and lines (`Lined`) of nucleus and journal, through each operation but the hand-over.
 -- Assumes nothing.
-use Rattle.std.specs.Prelude.{ℕ, ◌-◌, ◌≤◌, ◌<◌, ◌≡◌, Bool, not, ◌&&◌, List, [], ◌∷◌, ◌++◌, map, eqb, leb, length, get_or, set}
+use Rattle.std.specs.Prelude.{ℕ, ◌-◌, ◌≤◌, ◌<◌, ◌≡◌, Bool, not, ◌&&◌, List, [], ◌∷◌, ◌++◌, map, eqb, leb, length, get_or, set, Option, Some, None}
 use Rattle.std.proofs.Common.{arith, sym, ap, ◌∙◌, take_all, eqb-true, le-leb, lt-ltb}
 use Rattle.std.proofs.Math.Path.{refl, subst₃}
 use Rattle.std.proofs.Math.Bool.{true, false, cond, or-false}
 use Rattle.std.proofs.lemmas.List.{map-append}
-use Rattle.std.proofs.Math.Option.{some}
 use Rattle.lists.specs.Tests.{within, within_inside, eqb_self, Outcome, holds, fails, outcome, not_both, and_left, and_right}
 use Rattle.lists.specs.Folds.{any, all, all_at}
 use Rattle.lists.specs.Sift.{sift, sift_ext, sift_rest, sift_over, length_sift}
@@ -17,8 +16,6 @@ use Rattle.entries.specs.Laws.{Shape, no_entry, length_entries, entry_at, unpack
 use Rattle.entries.specs.declared.Entry.{Entry}
 use Rattle.queue.specs.Queue.{holder}
 use Rattle.queue.specs.Laws.{is_held, held_any, held_found, held_once}
-use Rattle.queue.specs.declared.Lookup.{Lookup}
-use Rattle.queue.specs.declared.Lookup.TheVariants.{Held, Free}
 use Rattle.removal.specs.Removal.{goes, stays}
 use Rattle.removal.specs.declared.Removal.{Removal}
 use Rattle.removal.specs.declared.Removal.TheVariants.{One, Unchanged}
@@ -94,12 +91,12 @@ module _ {gone : List Entry} {n : Nucleus} {j : Journal} (l : Lined gone n j) wh
   lined_left u = lined (fair_left (fair l) u) refl refl refl l.same_holds (others_same u)
 
   -- the call that he waits by is the same in both
-  keeps_same : (c : Command) (call : Call) → journal.keeps_place (some c) call j.line ≡ keeps_place c call n.state.wait_queue
+  keeps_same : (c : Command) (call : Call) → journal.keeps_place (Some c) call j.line ≡ keeps_place c call n.state.wait_queue
   keeps_same c call =
       ap (λ b. one_of may_wait c && eqb call.option option_W && b)
       (ap (any (waits_so c call)) (sym l.same_line) ∙ any_over waiter_seen (waits_so c call) (waiters_of n))
 
-  pub lined_left_by : (c : Command) (call : Call) → Lined gone (left_by c call n) (log_left_by (some c) call j)
+  pub lined_left_by : (c : Command) (call : Call) → Lined gone (left_by c call n) (log_left_by (Some c) call j)
   unfolding line_left_by log_left_by
   lined_left_by c call = rw (keeps_same c call) (go (keeps_place c call n.state.wait_queue))
     where
@@ -162,11 +159,11 @@ module _ {gone : List Entry} {n : Nucleus} {j : Journal} (l : Lined gone n j) wh
     pub holds_any : any (hold_at file isn) j.holds ≡ is_held (holder (entries_of n) file isn)
     holds_any = ap (any (hold_at file isn)) (sym l.same_holds) ∙ any_over hold_seen (hold_at file isn) (entries_of n) ∙ sym (held_any file isn (entries_of n))
 
-    pub with_hold_new : (u : ℕ) → holder (entries_of n) file isn ≡ Free
+    pub with_hold_new : (u : ℕ) → holder (entries_of n) file isn ≡ None
         → with_hold u file isn j.holds ≡ j.holds ++ record { user = u; file = file; isn = isn; changed = false } ∷ []
     with_hold_new u free = rw (holds_any, free)
 
-    pub with_hold_there : (u i : ℕ) (e : Entry) → holder (entries_of n) file isn ≡ Held i e → with_hold u file isn j.holds ≡ j.holds
+    pub with_hold_there : (u i : ℕ) (e : Entry) → holder (entries_of n) file isn ≡ Some (i, e) → with_hold u file isn j.holds ≡ j.holds
     with_hold_there u i e found = rw (holds_any, found)
 
 -- ---- one joins, where another holds his record
@@ -174,15 +171,15 @@ module _ {gone : List Entry} {n : Nucleus} {j : Journal} (l : Lined gone n j) wh
 other_small : (words : List ℕ) (count u file isn : ℕ) → other_holds u (holder (entries words count) file isn) ≡ true → (file < 256) × (isn < 65536)
 other_small words count u file isn h = go (holder (entries words count) file isn) refl h
   where
-    go : (found : Lookup) → holder (entries words count) file isn ≡ found → other_holds u found ≡ true → (file < 256) × (isn < 65536)
-    go (Held i e) found o =
+    go : (found : Option (ℕ × Entry)) → holder (entries words count) file isn ≡ found → other_holds u found ≡ true → (file < 256) × (isn < 65536)
+    go (Some (i, e)) found o =
         let at = held_found file isn (entries words count) i e found in
         let inside : i < count = omega (arith, at.inside, length_entries words count) in
         let shape : Shape e = rw (sym (entry_at words count i inside) ∙ at.stands) at (unpack_shape (get_or words i 0)) in
         let same_file : e.file ≡ file = eqb-true e.file file (and_left (eqb e.file file) (eqb e.isn isn) at.matches) in
         let same_isn : e.isn ≡ isn = eqb-true e.isn isn (and_right (eqb e.file file) (eqb e.isn isn) at.matches) in
         (omega (arith, shape.file, same_file), omega (arith, shape.isn, same_isn))
-    go Free found o = not_both false o refl
+    go None found o = not_both false o refl
 
 module _ {n : Nucleus} {j : Journal} (l : Lined [] n j) (c : Command) (call : Call) (least : 1 ≤ call.user) (most : call.user ≤ max_users)
     (may : may_receive (user_of n call.user) ≡ true) (held : other_holds call.user (holder (entries_of n) call.file call.isn) ≡ true) where

@@ -2,11 +2,11 @@
 -- changes no byte; N1 and N2 add a record of nulls".
 -- Assumes nothing.
 use Prim.Native.Nat.{ℕ}
+use Rattle.entries.specs.declared.Entry.{Entry}
 use Rattle.std.proofs.Common.{arith, ◌∙◌}
-use Rattle.std.specs.Prelude.{◌≡◌, ◌&&◌, ◌||◌, List, [], ◌∷◌, eqb, ltb, length}
+use Rattle.std.specs.Prelude.{◌≡◌, ◌&&◌, ◌||◌, List, [], ◌∷◌, eqb, ltb, length, Option, Some, None}
 use Rattle.std.proofs.Math.Path.{refl, ap}
 use Rattle.std.proofs.Math.Bool.{Bool, true, false, not}
-use Rattle.std.proofs.Math.Option.{Option, none, some}
 use borrow.Author.Tests.{le-ltb, not-false}
 use Rattle.lists.specs.Tests.{cond, and-false, or_left}
 use Rattle.lists.specs.Folds.{any_none}
@@ -21,10 +21,6 @@ use Rattle.nulls.specs.Nulls.{null_record}
 use Rattle.store.specs.Store.{record_of, field_value, put_record}
 use Rattle.store.specs.Files.{part_own}
 use Rattle.store.proofs.Laws.{put_own}
-use Rattle.records.specs.declared.Found.{Found}
-use Rattle.records.specs.declared.Found.TheVariants.{At, Nowhere}
-use Rattle.queue.specs.declared.Lookup.{Lookup}
-use Rattle.queue.specs.declared.Lookup.TheVariants.{Held, Free}
 use Rattle.committed.specs.Committed.{version_there, version_bytes}
 use Rattle.nucleus.specs.Commands.{direct_commands, one_of, on_record, reading_committed, naming, bringing_values}
 use Rattle.nucleus.specs.Responses.{number, waiting_number, good}
@@ -48,14 +44,14 @@ imaged_store : (r : Request) (isn : ℕ) (n : Nucleus) → (imaged r isn n).stor
 unfolding imaged
 imaged_store r isn n = go (holder_of r (held r isn n) isn) ∙ held_store r isn n
   where
-    go : (l : Lookup) → (imaged_at r l isn (held r isn n)).store ≡ (held r isn n).store
-    go (Held i e) = refl
-    go Free = refl
+    go : (l : Option (ℕ × Entry)) → (imaged_at r l isn (held r isn n)).store ≡ (held r isn n).store
+    go (Some (i, e)) = refl
+    go None = refl
 
 -- a file's own part put back
-part_back : (d : Definition) (x : Found) (store : List ℕ) → store_with d x store (part_in d x store) ≡ store
-part_back d (At i) store = part_own d i store
-part_back d Nowhere store = refl
+part_back : (d : Definition) (x : Option ℕ) (store : List ℕ) → store_with d x store (part_in d x store) ≡ store
+part_back d (Some i) store = part_own d i store
+part_back d None store = refl
 
 module _ (r : Request) (n : Nucleus) (alone : period_alone r.format ≡ true) where
   abbrev isn : ℕ
@@ -146,14 +142,14 @@ module _ (r : Request) (n : Nucleus) (alone : period_alone r.format ≡ true) wh
     no_byte_changed = go (first_cause (rows_last r n)) refl
       where
         go : (x : Option Response) → first_cause (rows_last r n) ≡ x → (unless x (refusal r.buffer n) (effect r n)).nucleus.store ≡ n.store
-        go (some cause) e = refl
-        go none e = ap (λ m. m.nucleus.store) (a1_alone (rw e)) ∙ imaged_store r isn n
+        go (Some cause) e = refl
+        go None e = ap (λ m. m.nucleus.store) (a1_alone (rw e)) ∙ imaged_store r isn n
 
 -- ---- in the journal such an A1 sets nothing
 pub replaced_alone : (f : File) (format values : List ℕ) → period_alone format ≡ true → (x : Option (List ℕ)) → apply f (replace format values) x ≡ x
 unfolding apply
-replaced_alone f format values alone none = refl
-replaced_alone f format values alone (some r) = ap some (write_none f format (alone_places f format alone) values r)
+replaced_alone f format values alone None = refl
+replaced_alone f format values alone (Some r) = ap Some (write_none f format (alone_places f format alone) values r)
 
 -- ---- a whole call that comes so far: no byte is changed of the store that the clock and the session left
 -- nor by the line; A1 lets nothing go

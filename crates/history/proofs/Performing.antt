@@ -1,11 +1,10 @@
 -- The commands that change no record, where no row of the response table refuses them: what is kept, and that nobody is overdue.
 -- Assumes nothing.
-use Rattle.std.specs.Prelude.{ℕ, ◌-◌, ◌≤◌, ◌≡◌, Bool, eqb, ltb, length, set}
+use Rattle.std.specs.Prelude.{ℕ, ◌-◌, ◌≤◌, ◌≡◌, Bool, eqb, ltb, length, set, Some}
 use Rattle.std.proofs.Common.{arith, ◌∙◌, ltb-false, le-leb}
 use Rattle.std.proofs.Math.Path.{refl, sym, ap, subst}
 use Rattle.std.proofs.Math.Bool.{true, false, not}
 use mathlib.Core.List.{[]}
-use Rattle.std.proofs.Math.Option.{some}
 use Rattle.std.proofs.lemmas.Bool.{not-true}
 use Rattle.lists.specs.Tests.{cond, Outcome, holds, fails, outcome, not_both}
 use Rattle.lists.specs.Folds.{all}
@@ -78,10 +77,10 @@ passed_over capacity lent n j rested m i h = record { kept = h.kept; rested = re
 
 -- the line that a call leaves before its clock
 pub passed_left_by : (capacity : ℕ) (lent : Lent ℕ) (n : Nucleus) (j : Journal) → Passed capacity lent n j → (c : Command) (call : Call)
-    → Passed capacity lent (left_by c call n) (log_left_by (some c) call j)
+    → Passed capacity lent (left_by c call n) (log_left_by (Some c) call j)
 unfolding log_left_by log_leave
 passed_left_by capacity lent n j p c call = record {
-  kept = kept_line capacity lent n (log_left_by (some c) call j) (go (journal.keeps_place (some c) call j.line)) (line_left_by c call n.state.wait_queue);
+  kept = kept_line capacity lent n (log_left_by (Some c) call j) (go (journal.keeps_place (Some c) call j.line)) (line_left_by c call n.state.wait_queue);
   rested = p.rested;
   lined = lined_left_by p.lined c call;
 }

@@ -1,6 +1,6 @@
 -- The nucleus's hold queue read as the abstract machine's, and what the removal of entries makes of it: RI's are the `sift`s of the machine's releases.
 -- Assumes nothing.
-use Rattle.std.specs.Prelude.{ℕ, ◌<◌, ◌≡◌, Bool, ◌&&◌, ◌||◌, List}
+use Rattle.std.specs.Prelude.{ℕ, ◌<◌, ◌≡◌, Bool, ◌&&◌, ◌||◌, List, Option, Some, None}
 use Rattle.std.proofs.Math.Path.{refl}
 use Rattle.std.proofs.Math.Bool.{true, false, not}
 use Rattle.std.proofs.Common.{eqb-true}
@@ -9,8 +9,6 @@ use Rattle.lists.specs.Folds.{all}
 use Rattle.lists.specs.Sift.{sift, all_keeps}
 use Rattle.queue.specs.Queue.{holder}
 use Rattle.entries.specs.declared.Entry.{Entry}
-use Rattle.queue.specs.declared.Lookup.{Lookup}
-use Rattle.queue.specs.declared.Lookup.TheVariants.{Held, Free}
 use Rattle.removal.specs.Removal.{stays, fits}
 use Rattle.removal.specs.Laws.{entries_remove}
 use Rattle.removal.specs.declared.Removal.{Removal}
@@ -57,7 +55,7 @@ module _ (n : Nucleus) (capacity : ℕ) (made : MadeIn capacity n) where
   unfolding removed
   seen_release u file isn small his new = go (holder (entries_of n) file isn) refl his new
     where
-      go : (found : Lookup) → holder (entries_of n) file isn ≡ found → is_holder u found ≡ true → is_changed found ≡ false
+      go : (found : Option (ℕ × Entry)) → holder (entries_of n) file isn ≡ found → is_holder u found ≡ true → is_changed found ≡ false
           → queue_seen (removed (One file isn) n) ≡ sift (λ (e : MachineEntry). e.changed || not (of_user u e && at_key (key file isn) e)) (queue_seen n)
-      go (Held i e) found h c = rw (eqb-true e.user u h) at (queue_release (definition_of n) capacity n.store n.queue n.images n.state.count made file isn i e small found c)
-      go Free found h c = not_both false h refl
+      go (Some (i, e)) found h c = rw (eqb-true e.user u h) at (queue_release (definition_of n) capacity n.store n.queue n.images n.state.count made file isn i e small found c)
+      go None found h c = not_both false h refl

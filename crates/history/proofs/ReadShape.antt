@@ -3,7 +3,7 @@
 -- Assumes nothing.
 use Prim.Native.Nat.{ℕ, zero, suc, ◌+◌, ◌-◌, ◌≤◌, ◌<◌}
 use Rattle.std.proofs.Common.{add-one, arith, ◌∙◌, length-set, drop-set-lt, ltb-true}
-use Rattle.std.specs.Prelude.{◌≡◌, refl, Bool, true, false, ◌||◌, List, [], ◌∷◌, ltb, length, drop, set}
+use Rattle.std.specs.Prelude.{◌≡◌, refl, Bool, true, false, ◌||◌, List, [], ◌∷◌, ltb, length, drop, set, Option, Some, None}
 use Rattle.lists.specs.Tests.{cond, within, within_least, within_most, and_left, and_right, Outcome, holds, fails, outcome}
 use Rattle.lists.specs.Folds.{all, distinct, Each, each_at, each_take, each_replicate, each_set}
 use Rattle.definition.specs.Table.{max_fields, max_files, max_length, no_field, no_file, beyond, no_definition, fields_of, files_of, field_count, file_count, named_alike}
@@ -19,7 +19,7 @@ use Rattle.file_validity.proofs.Laws.{valid_file}
 use Rattle.items.specs.Items.{item_of}
 use Rattle.reading.specs.Grammar.{room_for_file, add_file, last_file, room_for_field, with_field, add_field, broken, proceed, read_from, read_table}
 use Rattle.items.specs.declared.Item.{Item}
-use Rattle.items.specs.declared.Item.TheVariants.{File as item_file, Field as item_field, End as item_end, Broken as item_broken}
+use Rattle.items.specs.declared.Item.TheVariants.{File as item_file, Field as item_field, End as item_end}
 use Rattle.reading.specs.declared.Reading.{Reading}
 use Rattle.lists.specs.Every.{each_parts, each_later}
 
@@ -162,11 +162,11 @@ cond_shaped true r s = s refl
 cond_shaped false r s = no_definition_shape
 
 module _ (on : ℕ → Definition → Reading) (later : (at : ℕ) (d : Definition) → Space d → Shaped (on at d)) where
-  proceed_shaped : (at : ℕ) (d : Definition) (i : Item) → Space d → Shaped (proceed on at d i)
-  proceed_shaped at d (item_file n m) s = cond_shaped (room_for_file d) (on (at + 4) (add_file d n m)) (λ h. later (at + 4) (add_file d n m) (add_file_space d n m s h))
-  proceed_shaped at d (item_field g) s = cond_shaped (room_for_field d) (on (at + 6) (add_field d g)) (λ h. later (at + 6) (add_field d g) (add_field_space d g s h))
-  proceed_shaped at d item_end s = cond_shaped (valid d) _ (definition_shape d s)
-  proceed_shaped at d item_broken s = no_definition_shape
+  proceed_shaped : (at : ℕ) (d : Definition) (i : Option Item) → Space d → Shaped (proceed on at d i)
+  proceed_shaped at d (Some (item_file n m)) s = cond_shaped (room_for_file d) (on (at + 4) (add_file d n m)) (λ h. later (at + 4) (add_file d n m) (add_file_space d n m s h))
+  proceed_shaped at d (Some (item_field g)) s = cond_shaped (room_for_field d) (on (at + 6) (add_field d g)) (λ h. later (at + 6) (add_field d g) (add_field_space d g s h))
+  proceed_shaped at d (Some item_end) s = cond_shaped (valid d) _ (definition_shape d s)
+  proceed_shaped at d None s = no_definition_shape
 
 module _ (bytes : List ℕ) where
   from_shaped : (fuel at : ℕ) (d : Definition) → Space d → Shaped (read_from fuel bytes at d)

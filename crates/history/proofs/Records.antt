@@ -1,11 +1,10 @@
 -- What the argument of requirement 3 says of records: the nucleus has what the journal has, and no unique value is there twice.
 -- Assumes nothing.
-use Rattle.std.specs.Prelude.{ℕ, ◌≤◌, ◌<◌, ◌≡◌, false, eqb, ltb}
+use Rattle.std.specs.Prelude.{ℕ, ◌≤◌, ◌<◌, ◌≡◌, false, eqb, ltb, Option, Some, None}
 use Rattle.std.proofs.Common.{arith, ◌∙◌}
 use Rattle.std.proofs.Math.Path.{refl, sym, ap}
 use Rattle.std.proofs.Math.Bool.{true}
 use mathlib.Core.List.{List, [], ◌∷◌}
-use Rattle.std.proofs.Math.Option.{Option, none, some}
 use borrow.Author.Tests.{eqb-true, ltb-true, ltb-false, ne_eqb}
 use Rattle.lists.specs.Tests.{and-false, cond, Outcome, holds, fails, outcome, within, within_inside, not_both, and_left, and_right}
 use Rattle.lists.specs.Folds.{any, all}
@@ -17,8 +16,6 @@ use Rattle.definition.specs.declared.File.{File}
 use Rattle.definition.specs.declared.FieldOption.TheVariants.{Unique}
 use Rattle.layout.specs.Layout.{place, file_found, isn_found}
 use Rattle.layout.specs.Laws.{place_found}
-use Rattle.records.specs.declared.Found.{Found}
-use Rattle.records.specs.declared.Found.TheVariants.{At, Nowhere}
 use Rattle.lists.specs.Numbers.{numbers, in_numbers}
 use Rattle.store.specs.Store.{get as get_record, file_part}
 use Rattle.store.proofs.Laws.{get_outside}
@@ -67,9 +64,9 @@ module _ (capacity : ℕ) (lent : Lent ℕ) (n : Nucleus) (j : Journal) (k : Kep
         get_is d n.store k.sized.made.store_room (key file isn)
         ∙ rw (file_of_key file isn small, isn_of_key file isn small) (go (place d file))
       where
-        go : (x : Found) → get_at d x isn n.store ≡ get_record (file_found d x) (part_in d x n.store) isn
-        go (At i) = refl
-        go Nowhere = sym (get_outside beyond [] isn (λ a b. absurd (omega arith)))
+        go : (x : Option ℕ) → get_at d x isn n.store ≡ get_record (file_found d x) (part_in d x n.store) isn
+        go (Some i) = refl
+        go None = sym (get_outside beyond [] isn (λ a b. absurd (omega arith)))
 
     -- one change of the journal, and of the machine's
     same_change : (c : Change) → c.isn < isn_bound → (x : Option (List ℕ))
@@ -90,10 +87,10 @@ module _ (capacity : ℕ) (lent : Lent ℕ) (n : Nucleus) (j : Journal) (k : Kep
         ap (λ y. replay (ground_of lent n) (key file isn) y (logged cs)) (same_change c (change_small n.state.users c (and_left (change_sound n.state.users c) (all (change_sound n.state.users) cs) h)) x)
         ∙ replay_is cs (and_right (change_sound n.state.users c) (all (change_sound n.state.users) cs) h) _
 
-    same_small : record_in d n.store file isn ≡ replayed d file isn none j.changes
+    same_small : record_in d n.store file isn ≡ replayed d file isn None j.changes
     same_small =
         sym slot_in ∙ same_slots (ground_of lent n) (laws_of capacity lent n k.sized) (seen lent n) (logged j.changes) k.invariant (key file isn)
-        ∙ replay_is j.changes k.told.changes_sound none
+        ∙ replay_is j.changes k.told.changes_sound None
 
   -- ---- of an ISN that no file has
   module _ (file isn : ℕ) (large : isn_bound ≤ isn) where
@@ -104,25 +101,25 @@ module _ (capacity : ℕ) (lent : Lent ℕ) (n : Nucleus) (j : Journal) (k : Kep
         let apart : eqb c.isn isn ≡ false = ne_eqb c.isn isn (λ e. absurd (omega (arith, e))) in
         rw (apart, and-false (eqb c.file file)) (no_change cs (and_right (change_sound n.state.users c) (all (change_sound n.state.users) cs) h) x)
 
-    none_large : record_in d n.store file isn ≡ none
+    none_large : record_in d n.store file isn ≡ None
     none_large = get_outside (file_found d (place d file)) (part_in d (place d file) n.store) isn (λ a b. absurd (omega (arith, b, highest (place d file) refl, large)))
       where
-        highest : (x : Found) → place d file ≡ x → (file_found d x).max_isn < isn_bound
-        highest (At i) e = (file_shape_at d k.sized.shape i (omega (arith, (place_found d k.sized.shape file i e).0))).small_max_isn
-        highest Nowhere e = omega arith
+        highest : (x : Option ℕ) → place d file ≡ x → (file_found d x).max_isn < isn_bound
+        highest (Some i) e = (file_shape_at d k.sized.shape i (omega (arith, (place_found d k.sized.shape file i e).0))).small_max_isn
+        highest None e = omega arith
 
   pub same_records : SameRecords d n.store j
   unfolding record_told
   same_records file isn = go (outcome (ltb isn isn_bound))
     where
-      go : Outcome (ltb isn isn_bound) → record_in d n.store file isn ≡ replayed d file isn none j.changes
+      go : Outcome (ltb isn isn_bound) → record_in d n.store file isn ≡ replayed d file isn None j.changes
       go (holds t) = same_small file isn (ltb-true isn isn_bound t)
-      go (fails t) = let large = ltb-false isn isn_bound t in none_large file isn large ∙ sym (no_change file isn large j.changes k.told.changes_sound none)
+      go (fails t) = let large = ltb-false isn isn_bound t in none_large file isn large ∙ sym (no_change file isn large j.changes k.told.changes_sound None)
 
   -- ---- no unique value twice
   -- where a record is, is an ISN of the table
-  module _ (file isn : ℕ) (a : List ℕ) (there : record_in d n.store file isn ≡ some a) where
-    some_none : {A : Type 0} → record_in d n.store file isn ≡ none → A
+  module _ (file isn : ℕ) (a : List ℕ) (there : record_in d n.store file isn ≡ Some a) where
+    some_none : {A : Type 0} → record_in d n.store file isn ≡ None → A
     some_none e = absurd (let z : ◌≡◌ {A = ℕ} 0 1 = cc in omega arith)
 
     there_small : isn < isn_bound
@@ -136,16 +133,16 @@ module _ (capacity : ℕ) (lent : Lent ℕ) (n : Nucleus) (j : Journal) (k : Kep
     unfolding known
     there_known = rw (file_of_key file isn there_small, isn_of_key file isn there_small) (go (place d file) refl)
       where
-        go : (x : Found) → place d file ≡ x → isn_found d x isn ≡ true
-        go (At i) e = inside (outcome (within 1 (file_at d i).max_isn isn))
+        go : (x : Option ℕ) → place d file ≡ x → isn_found d x isn ≡ true
+        go (Some i) e = inside (outcome (within 1 (file_at d i).max_isn isn))
           where
             inside : Outcome (within 1 (file_at d i).max_isn isn) → within 1 (file_at d i).max_isn isn ≡ true
             inside (holds t) = t
             inside (fails t) =
                 some_none (rw e (get_outside (file_at d i) (file_part d i n.store) isn (λ p q. not_both (within 1 (file_at d i).max_isn isn) (within_inside 1 (file_at d i).max_isn isn p q) t)))
-        go Nowhere e = some_none (rw e (get_outside beyond [] isn (λ p q. absurd (omega arith))))
+        go None e = some_none (rw e (get_outside beyond [] isn (λ p q. absurd (omega arith))))
 
-    there_slot : get d n.store (key file isn) ≡ some a
+    there_slot : get d n.store (key file isn) ≡ Some a
     there_slot = slot_in file isn there_small ∙ there
 
     there_key : any (eqb (key file isn)) (keys d) ≡ true

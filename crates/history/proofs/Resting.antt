@@ -2,10 +2,9 @@
 -- Assumes nothing.
 use Prim.Native.Nat.{ℕ, zero, suc, ◌+◌, ◌-◌, ◌≤◌, max}
 use native.Mathlib.Omega.{arith}
-use Rattle.std.specs.Prelude.{◌≡◌, true, false, List, length, set}
+use Rattle.std.specs.Prelude.{◌≡◌, true, false, List, length, set, Some}
 use Rattle.std.proofs.Math.Path.{refl, ap}
 use Rattle.std.proofs.Common.{◌∙◌, le-ltb}
-use Rattle.std.proofs.Math.Option.{some}
 use Rattle.std.proofs.lemmas.List.{set-get_or}
 use Rattle.lists.specs.Tests.{cond, within, and_left, and_right, and-false}
 use Rattle.nucleus.specs.Commands.{direct_commands, command_of, one_of, on_session, serving_ready, setting_ready, has_option}
@@ -59,12 +58,12 @@ module _ (capacity : ℕ) (lent : Lent ℕ) (n : Nucleus) (j : Journal) (p : Pas
   past_clock = clocked call.clock (left_by c call n)
 
   abbrev pub told_then : Journal
-  told_then = log_clock call.clock (log_left_by (some c) call j)
+  told_then = log_clock call.clock (log_left_by (Some c) call j)
 
   pub passed_then : Passed capacity lent past_clock told_then
   passed_then =
       let q = passed_left_by capacity lent n j p c call in
-      passed_clock capacity lent call.clock (left_by c call n) (log_left_by (some c) call j) q.kept q.lined
+      passed_clock capacity lent call.clock (left_by c call n) (log_left_by (Some c) call j) q.kept q.lined
 
   abbrev m : Nucleus
   m = past_clock
@@ -100,7 +99,7 @@ module _ (capacity : ℕ) (lent : Lent ℕ) (n : Nucleus) (j : Journal) (p : Pas
     let_in_user = rw (sound.not_overdue, other) (ap (admitted_session c call) opened_same ∙ let_in_session)
 
     -- so it is answered as its own rows have it
-    pub performed_good : command_of direct_commands call.command ≡ some c → has_option c call.option ≡ true → within 1 max_users call.user ≡ true
+    pub performed_good : command_of direct_commands call.command ≡ Some c → has_option c call.option ≡ true → within 1 max_users call.user ≡ true
         → (perform (request capacity c call format buffer) m).answer.response ≡ Good → (step capacity call format buffer n).answer.response ≡ Good
     unfolding step admitted rows_usable rows_understood after_line
     performed_good known named inside good =

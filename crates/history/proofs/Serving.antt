@@ -1,10 +1,9 @@
 -- A call past its clock: whatever it answers, what is kept stays so, and the journal is told the same.
 -- Assumes nothing.
-use Rattle.std.specs.Prelude.{ℕ, ◌≤◌, ◌≡◌, Bool, false, ◌&&◌, ◌||◌, List, [], ◌∷◌, ◌⊎◌, eqb, ltb, length}
+use Rattle.std.specs.Prelude.{ℕ, ◌≤◌, ◌≡◌, Bool, false, ◌&&◌, ◌||◌, List, [], ◌∷◌, ◌⊎◌, eqb, ltb, length, Some, None}
 use Rattle.std.proofs.Math.Path.{refl, ap}
 use Rattle.std.proofs.Common.{sym, subst, inl, inr}
 use Rattle.std.proofs.Math.Bool.{true, not}
-use Rattle.std.proofs.Math.Option.{none, some}
 use borrow.Author.Tests.{not-false}
 use Rattle.lists.specs.Tests.{cond, Outcome, holds, fails, outcome, not_both, and_left, and_right}
 use Rattle.lists.specs.Folds.{all}
@@ -43,11 +42,11 @@ abbrev pub plain : Response → Bool
 plain c = not (eqb (number c) 0) && not (eqb (number c) 9) && not (is_early (number c))
 
 -- where the causes of all rows are so, the first is
-pub first_such : (q : Response → Bool) (rs : List Row) → all (λ (r : Row). q r.cause) rs ≡ true → (c : Response) → first_cause rs ≡ some c → q c ≡ true
+pub first_such : (q : Response → Bool) (rs : List Row) → all (λ (r : Row). q r.cause) rs ≡ true → (c : Response) → first_cause rs ≡ Some c → q c ≡ true
 first_such q [] h c e = not_both false (ap is_cause e) refl
 first_such q (r ∷ rs) h c e = go (outcome r.holds) (first_such q rs (and_right (q r.cause) (all (λ (x : Row). q x.cause) rs) h) c)
   where
-    go : Outcome r.holds → (first_cause rs ≡ some c → q c ≡ true) → q c ≡ true
+    go : Outcome r.holds → (first_cause rs ≡ Some c → q c ≡ true) → q c ≡ true
     go (holds t) later = let same : r.cause ≡ c = cc (rw t at e) in rw (← same) (and_left (q r.cause) (all (λ (x : Row). q x.cause) rs) h)
     go (fails t) later = later (rw t at e)
 
@@ -81,7 +80,7 @@ serving_caller r n y other = record {
 
 -- what a call answers and leaves, beside what the journal makes of it
 pub record Served (lent : Lent ℕ) (r : Request) (j : Journal) (c : Command) (x : Result) : Type 0 where
-  pub passed : Passed r.capacity lent x.nucleus (log_answered (some c) r.call r.format r.buffer (number x.answer.response) x.answer.isn j)
+  pub passed : Passed r.capacity lent x.nucleus (log_answered (Some c) r.call r.format r.buffer (number x.answer.response) x.answer.isn j)
   pub not_early : is_early (number x.answer.response) ≡ false
 
 module _ (lent : Lent ℕ) (n : Nucleus) (j : Journal) (r : Request) (p : Passed r.capacity lent n j) (y : Caller r n) (a : Accepted r n) where
@@ -165,10 +164,10 @@ module _ (lent : Lent ℕ) (n : Nucleus) (j : Journal) (r : Request) (p : Passed
     changes_to : (m : Nucleus) → Changed r.capacity lent r n (slot_of r n c) m → Passed r.capacity lent m (log_update r.call isn (update_of r c) j)
     changes_to m ch = passed_changed lent n j r p s a c m ch
 
-    to_written : Changed r.capacity lent r n (some (new_record r n isn)) (written r isn n)
+    to_written : Changed r.capacity lent r n (Some (new_record r n isn)) (written r isn n)
     to_written = written_changed r.capacity lent r n (aim r n k.sized.shape a k.assigned_sound c) (held_here lent n j r p s a c)
 
-    to_erased : Changed r.capacity lent r n none (erased r isn n)
+    to_erased : Changed r.capacity lent r n None (erased r isn n)
     to_erased = erased_changed r.capacity lent r n (aim r n k.sized.shape a k.assigned_sound c) (held_here lent n j r p s a c)
 
   -- N1 keeps the ISN that it gave

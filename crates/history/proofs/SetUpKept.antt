@@ -1,6 +1,6 @@
 -- Set-up: what it leaves has all that is kept from call to call (`Kept`), nobody overdue; and what it leaves untouched of what was lent.
 -- Assumes nothing.
-use Rattle.std.specs.Prelude.{ℕ, zero, suc, ◌*◌, ◌≤◌, ◌≡◌, true, false, List, [], ◌∷◌, eqb, length, replicate}
+use Rattle.std.specs.Prelude.{ℕ, zero, suc, ◌*◌, ◌≤◌, ◌≡◌, true, false, List, [], ◌∷◌, eqb, length, replicate, Option, Some, None}
 use Rattle.std.proofs.Common.{arith, sym, ◌∙◌, le-leb, ltb-false}
 use Rattle.std.proofs.Math.Path.{refl}
 use Rattle.std.proofs.lemmas.Bool.{not-false}
@@ -13,8 +13,6 @@ use Rattle.layout.specs.Layout.{store_size, image_length}
 use Rattle.validity.specs.Validity.{valid}
 use Rattle.reading.specs.Grammar.{read_table}
 use Rattle.reading.proofs.Laws.{read_valid}
-use Rattle.reading.specs.declared.End.{End}
-use Rattle.reading.specs.declared.End.TheVariants.{At, Broken}
 use Rattle.lists.specs.Numbers.{numbers}
 use Rattle.entries.specs.Entries.{entries}
 use Rattle.repeats.specs.Repeats.{repeated}
@@ -145,11 +143,11 @@ module _ (capacity : ℕ) (store queue images : List ℕ) where
     unfolding set_up
     set_up_end = go (read_table table).end refl
       where
-        go : (e : End) → (read_table table).end ≡ e → SetUpEnd d (set_up_at capacity store queue images e (length table) d)
-        go Broken q = undone DefinitionInvalid no_table
-        go (At end) q = whole (outcome (eqb end (length table)))
+        go : (e : Option ℕ) → (read_table table).end ≡ e → SetUpEnd d (set_up_at capacity store queue images e (length table) d)
+        go None q = undone DefinitionInvalid no_table
+        go (Some end) q = whole (outcome (eqb end (length table)))
           where
-            whole : Outcome (eqb end (length table)) → SetUpEnd d (set_up_at capacity store queue images (At end) (length table) d)
+            whole : Outcome (eqb end (length table)) → SetUpEnd d (set_up_at capacity store queue images (Some end) (length table) d)
             whole (holds h) = rw h (end_as d (read_shape table) (read_valid table end q))
             whole (fails h) = rw h (undone DefinitionInvalid no_table)
 

@@ -1,7 +1,7 @@
 -- What store, queue and images keep through each thing that is done to them: a new entry, a removal, a back-out, a first change and a record put
 -- leave them well made, as long as they were lent, and past their sizes as they were lent.
 -- Assumes nothing.
-use Rattle.std.specs.Prelude.{ℕ, suc, ◌+◌, ◌*◌, ◌≤◌, ◌<◌, ◌≡◌, refl, Bool, cond, ◌&&◌, List, [], ◌∷◌, length, set}
+use Rattle.std.specs.Prelude.{ℕ, suc, ◌+◌, ◌*◌, ◌≤◌, ◌<◌, ◌≡◌, refl, Bool, cond, ◌&&◌, List, [], ◌∷◌, length, set, None}
 use Rattle.std.proofs.Math.Nat.{mul-le-mul_right}
 use Rattle.std.proofs.Common.{arith, ◌∙◌, length-set, drop-set-lt}
 use Rattle.std.proofs.Math.Bool.{true, false}
@@ -17,7 +17,6 @@ use Rattle.entries.specs.Laws.{Shape, length_entries}
 use Rattle.entries.specs.declared.Entry.{Entry}
 use Rattle.queue.specs.Queue.{holder, append}
 use Rattle.changes.specs.Changes.{change, keep_image, settled, first_change_queue, first_change_images}
-use Rattle.queue.specs.declared.Lookup.TheVariants.{Free}
 use Rattle.removal.specs.Closing.{set_count_most, closed, closed_rest, length_closed}
 use Rattle.removal.specs.Removal.{stays, staying, remove_queue, remove_images, remove_count}
 use Rattle.removal.specs.declared.Removal.{Removal}
@@ -87,7 +86,7 @@ module _ (capacity : ℕ) (lent : Lent ℕ) (d : Definition) (store queue images
   }
 
   -- ---- a new entry
-  pub sized_append : (e : Entry) → Shape e → known d (key_of e) ≡ true → holder (entries queue count) e.file e.isn ≡ Free → count < capacity
+  pub sized_append : (e : Entry) → Shape e → known d (key_of e) ≡ true → holder (entries queue count) e.file e.isn ≡ None → count < capacity
       → Sized capacity lent d store (append queue count e) images (count + 1)
   unfolding append
   sized_append e shape inside free more = sized_as _ _ _ _

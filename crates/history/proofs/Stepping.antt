@@ -1,11 +1,10 @@
 -- One call, from its first row to its effect: what is kept stays so, nobody is overdue, and the journal is told the same.
 -- Assumes nothing.
-use Rattle.std.specs.Prelude.{ℕ, ◌-◌, ◌≤◌, ◌≡◌, Bool, true, false, ◌&&◌, ◌||◌, eqb, set}
+use Rattle.std.specs.Prelude.{ℕ, ◌-◌, ◌≤◌, ◌≡◌, Bool, true, false, ◌&&◌, ◌||◌, eqb, set, Option, Some, None}
 use Rattle.std.proofs.Math.Path.{refl, sym, ap}
 use Rattle.std.proofs.Common.{◌∙◌}
 use Rattle.std.proofs.Math.Bool.{not}
 use mathlib.Core.List.{List, [], ◌∷◌}
-use Rattle.std.proofs.Math.Option.{Option, none, some}
 use Rattle.std.proofs.lemmas.List.{set-get_or}
 use borrow.Author.Tests.{eqb-true, not-true}
 use Rattle.lists.specs.Tests.{cond, Outcome, holds, fails, outcome, within, within_least, within_most, not_both, and_left, and_right, and-false}
@@ -92,7 +91,7 @@ module _ (lent : Lent ℕ) (n : Nucleus) (j : Journal) (r : Request) (p : Passed
     refused_after = record { passed = rw (zero, nine, other) p; not_early = early }
 
   -- 20: who is refused so has joined the line
-  module _ (y : Caller r n) (c : Response) (e : first_cause (rows_last r n) ≡ some c) (twenty : number c ≡ waiting_number) where
+  module _ (y : Caller r n) (c : Response) (e : first_cause (rows_last r n) ≡ Some c) (twenty : number c ≡ waiting_number) where
     row_holds : (waits r n || false) ≡ true
     row_holds = first_holds waiting_number (rows_last r n) c e twenty
 
@@ -136,8 +135,8 @@ module _ (lent : Lent ℕ) (n : Nucleus) (j : Journal) (r : Request) (p : Passed
   performed y = go (first_cause (rows_last r n)) refl
     where
       go : (x : Option Response) → first_cause (rows_last r n) ≡ x → Served lent r j r.command (after_line r n (unless x (refusal r.buffer n) (effect r n)))
-      go none e = served_effect lent n j r p y (accepted r n (ap is_cause e)) r.command refl
-      go (some c) e = refused (outcome (eqb (number c) waiting_number))
+      go None e = served_effect lent n j r p y (accepted r n (ap is_cause e)) r.command refl
+      go (Some c) e = refused (outcome (eqb (number c) waiting_number))
         where
           refused : Outcome (eqb (number c) waiting_number) → Served lent r j r.command (after_line r n (refusal r.buffer n c))
           refused (holds t) = joined y c e (eqb-true (number c) waiting_number t)
@@ -199,9 +198,9 @@ module _ (capacity : ℕ) (lent : Lent ℕ) (n : Nucleus) (j : Journal) (k : Kep
     let_go_none : log_let_go (hold_of u) j ≡ j
     unfolding log_let_go
     let_go_none =
-        let none = sift_none (hold_of u) j.holds (none_any (hold_of u) j.holds none_his) in
+        let None = sift_none (hold_of u) j.holds (none_any (hold_of u) j.holds none_his) in
         let rest = sift_all (λ (h : Hold). not (hold_of u h)) j.holds none_his in
-        ap (λ (hs : List Hold). log_handed hs (with_holds (sift (λ h. not (hold_of u h)) j.holds) j.line j)) none ∙ ap (λ (hs : List Hold). with_holds hs j.line j) rest
+        ap (λ (hs : List Hold). log_handed hs (with_holds (sift (λ h. not (hold_of u h)) j.holds) j.line j)) None ∙ ap (λ (hs : List Hold). with_holds hs j.line j) rest
 
     pub struck_idle : struck u j ≡ j
     unfolding struck
@@ -364,12 +363,12 @@ module _ (capacity : ℕ) (lent : Lent ℕ) (n : Nucleus) (j : Journal) (p : Pas
   refused_first c early of = record { passed = rw early p; usable = of; user_inside = λ late. not_both (is_early (number c)) early late }
 
   -- past the clock
-  served_known : (c : Command) → command_of direct_commands call.command ≡ some c → within 1 max_users call.user ≡ true
-      → Stepped capacity lent call format buffer j (serve (admitted_command (some c) call n) capacity call format buffer)
+  served_known : (c : Command) → command_of direct_commands call.command ≡ Some c → within 1 max_users call.user ≡ true
+      → Stepped capacity lent call format buffer j (serve (admitted_command (Some c) call n) capacity call format buffer)
   unfolding fed
   served_known c known user =
       let o = left_by c call n in
-      let i = log_left_by (some c) call j in
+      let i = log_left_by (Some c) call j in
       let q = passed_left_by capacity lent n j p c call in
       let passed = passed_clock capacity lent call.clock o i q.kept q.lined in
       let s = served lent (clocked call.clock o) (log_clock call.clock i) (request capacity c call format buffer) passed
@@ -378,7 +377,7 @@ module _ (capacity : ℕ) (lent : Lent ℕ) (n : Nucleus) (j : Journal) (p : Pas
       in
       record {
         passed = rw (s.not_early, known) s.passed;
-        usable = early_usable (number (serve (admitted_command (some c) call n) capacity call format buffer).answer.response) s.not_early;
+        usable = early_usable (number (serve (admitted_command (Some c) call n) capacity call format buffer).answer.response) s.not_early;
         user_inside = λ late. user;
       }
 
@@ -396,10 +395,10 @@ module _ (capacity : ℕ) (lent : Lent ℕ) (n : Nucleus) (j : Journal) (p : Pas
           capacity call format buffer
 
       go : (x : Option Command) → command_of direct_commands call.command ≡ x → Stepped capacity lent call format buffer j (after_first x)
-      go none e = refused_first CommandUnknown refl refl
-      go (some c) e = go_on (outcome (has_option c call.option)) (outcome (within 1 max_users call.user))
+      go None e = refused_first CommandUnknown refl refl
+      go (Some c) e = go_on (outcome (has_option c call.option)) (outcome (within 1 max_users call.user))
         where
-          go_on : Outcome (has_option c call.option) → Outcome (within 1 max_users call.user) → Stepped capacity lent call format buffer j (after_first (some c))
+          go_on : Outcome (has_option c call.option) → Outcome (within 1 max_users call.user) → Stepped capacity lent call format buffer j (after_first (Some c))
           go_on (fails o) u = rw o (refused_first CommandUnknown refl refl)
           go_on (holds o) (fails u) = rw (o, u) (refused_first UserUnknown refl refl)
           go_on (holds o) (holds u) = rw (o, u) (served_known c e u)

@@ -1,11 +1,10 @@
 -- Requirement 3 and the statements beside it, proved.
 -- Assumes nothing.
-use Rattle.std.specs.Prelude.{ℕ, ◌-◌, ◌≤◌, ◌≡◌, true, not}
+use Rattle.std.specs.Prelude.{ℕ, ◌-◌, ◌≤◌, ◌≡◌, true, not, Option, Some, None}
 use Rattle.std.proofs.Common.{arith, sym, subst, ◌∙◌, inl, inr, get_or-set_same}
 use Rattle.std.proofs.Math.Path.{refl, ap}
 use Rattle.std.proofs.Math.Bool.{false}
 use mathlib.Core.List.{List, [], ◌∷◌, ◌++◌, map}
-use Rattle.std.proofs.Math.Option.{Option, none, some}
 use Rattle.std.proofs.Math.Dec.{eqb}
 use Rattle.std.proofs.Math.ListN.{length, length-map}
 use borrow.Author.Tests.{not-true}
@@ -156,8 +155,8 @@ journal_of_answers capacity [] w = refl
 journal_of_answers capacity (g ∷ gs) w = journal_of_answers capacity gs (called capacity g w)
 
 -- a call of a command that was answered 0
-fed_good : (c : Command) (call : Call) (format buffer : List ℕ) (isn : ℕ) (j : Journal) → command_of direct_commands call.command ≡ some c
-    → fed call format buffer 0 isn j ≡ log_accepted c call format buffer isn (log_clock call.clock (log_left_by (some c) call j))
+fed_good : (c : Command) (call : Call) (format buffer : List ℕ) (isn : ℕ) (j : Journal) → command_of direct_commands call.command ≡ Some c
+    → fed call format buffer 0 isn j ≡ log_accepted c call format buffer isn (log_clock call.clock (log_left_by (Some c) call j))
 unfolding fed
 fed_good c call format buffer isn j known = ap (λ x. log_answered x call format buffer 0 isn (log_clock call.clock (log_left_by x call j))) known
 
@@ -165,14 +164,14 @@ fed_good c call format buffer isn j known = ap (λ x. log_answered x call format
 module _ (d : Definition) (call : Call) (format buffer : List ℕ) (isn : ℕ) where
   last_added : (cs : List Change) (x : Option (List ℕ))
       → replayed d call.file isn x (cs ++ record { user = call.user; file = call.file; isn = isn; update = add format buffer; uncommitted = true } ∷ [])
-      ≡ some (record_added d call format buffer)
+      ≡ Some (record_added d call format buffer)
   unfolding apply
   last_added [] x = rw (eqb_self call.file, eqb_self isn)
   last_added (c ∷ cs) x = last_added cs _
 
-  told_added : (i : Journal) → record_told d (log_update call isn (add format buffer) i) call.file isn ≡ some (record_added d call format buffer)
+  told_added : (i : Journal) → record_told d (log_update call isn (add format buffer) i) call.file isn ≡ Some (record_added d call format buffer)
   unfolding log_change record_told
-  told_added i = last_added (log_mark call.file isn (log_hold call.user call.file isn i)).changes none
+  told_added i = last_added (log_mark call.file isn (log_hold call.user call.file isn i)).changes None
 
 pub added_told : AddedTold
 unfolding command_of
@@ -214,7 +213,7 @@ module _ (capacity : ℕ) (lent : Lent ℕ) where
 
       clock_awaited : Awaited u w.journal told
       clock_awaited =
-          awaited_past u u_least (some c) g.call w.journal ready (ready_started n.state.users u w.journal p.kept.told.same_members ready)
+          awaited_past u u_least (Some c) g.call w.journal ready (ready_started n.state.users u w.journal p.kept.told.same_members ready)
 
       active_then : is_active (user_of then u) ≡ true
       active_then =

@@ -1,11 +1,10 @@
 -- The journal's kinds of change, as `ground` asks them: a change is made at a key of the table only, leaves a record of its file's width, and a
 -- unique field that it does not judge keeps its value.
 -- Assumes nothing.
-use Rattle.std.specs.Prelude.{ℕ, ◌<◌, ◌≡◌, Bool, eqb, ltb, length}
+use Rattle.std.specs.Prelude.{ℕ, ◌<◌, ◌≡◌, Bool, eqb, ltb, length, Some, None}
 use Rattle.std.proofs.Common.{arith, sym, ◌∙◌, eqb-true, eq-eqb, ltb-true, lt-ltb}
 use Rattle.std.proofs.Math.Path.{refl}
 use Rattle.std.proofs.Math.Bool.{true, false}
-use Rattle.std.proofs.Math.Option.{none, some}
 use Rattle.lists.specs.Tests.{not_both, and_left, and_right}
 use Rattle.lists.specs.Folds.{any}
 use Rattle.lists.specs.Sift.{all_keeps, elem_all}
@@ -34,8 +33,8 @@ use Rattle.history.specs.Updates.{FileUpdate, suits, judged_by, updates}
 -- A1 leaves a record's width as it was, N1 and N2 make one of the file's width
 apply_width : (d : Definition) (file : ℕ) (u : Update) (x : Slot) → suits d file u x ≡ true → fit_width (file_of d file) (apply (file_of d file) u x) ≡ true
 unfolding apply
-apply_width d file (replace format values) none h = refl
-apply_width d file (replace format values) (some r) h =
+apply_width d file (replace format values) None h = refl
+apply_width d file (replace format values) (Some r) h =
     eq-eqb _ _ (write_fields_length (file_of d file) format values r ∙ eqb-true (length r) (record_length (file_of d file)) h)
 apply_width d file erase x h = refl
 apply_width d file (add format values) x h =
@@ -54,14 +53,14 @@ unique_inside f j h =
 
 -- what a change keeps of the field at place j: there was a record, and its value is the new one's
 abbrev Keeps : File → ℕ → Slot → Bytes → Type 0
-Keeps f j x r = (o : Bytes) × (x ≡ some o) × (field_value f j o ≡ field_value f j r)
+Keeps f j x r = (o : Bytes) × (x ≡ Some o) × (field_value f j o ≡ field_value f j r)
 
 module _ (d : Definition) (file : ℕ) (s : FileShape (file_of d file)) (j : ℕ) (inside : j < field_count (file_of d file)) where
   -- "A1 the named ones": fields that it does not name are not touched
-  unjudged_kept : (u : Update) (x : Slot) (r : Bytes) → suits d file u x ≡ true → apply (file_of d file) u x ≡ some r → judged_by d file u j ≡ false → Keeps (file_of d file) j x r
+  unjudged_kept : (u : Update) (x : Slot) (r : Bytes) → suits d file u x ≡ true → apply (file_of d file) u x ≡ Some r → judged_by d file u j ≡ false → Keeps (file_of d file) j x r
   unfolding apply
-  unjudged_kept (replace format values) none r h e n = not_both false h refl
-  unjudged_kept (replace format values) (some o) r h e n =
+  unjudged_kept (replace format values) None r h e n = not_both false h refl
+  unjudged_kept (replace format values) (Some o) r h e n =
       let new : write_fields (file_of d file) format values o ≡ r = cc in
       (o, refl, rw (← new) (sym (unnamed_kept (file_of d file) s j inside format n values o)))
   unjudged_kept erase x r h e n = not_both true refl n
@@ -96,7 +95,7 @@ module _ (d : Definition) (s : DefinitionShape d) where
           let r = known_found d s k (may_known d c k x h) in
           known_fit d s k r.at _ r.found (may_known d c k x h) (rw (← (known_file d k r)) (apply_width d (key_file k) c.update x (may_suits d c k x h)))
 
-      keeps : (c : FileUpdate) (k : ℕ) (x : Slot) (r : Bytes) (j : ℕ) → (updates d).may c k x ≡ true → (updates d).apply k c x ≡ some r
+      keeps : (c : FileUpdate) (k : ℕ) (x : Slot) (r : Bytes) (j : ℕ) → (updates d).may c k x ≡ true → (updates d).apply k c x ≡ Some r
           → any (eqb j) (uniques (file_of d (key_file k))) ≡ true → (updates d).judges c j ≡ false → Keeps (file_of d (key_file k)) j x r
       keeps c k x r j h e u n =
           unjudged_kept d (key_file k) (shape_of k (may_known d c k x h)) j (unique_inside (file_of d (key_file k)) j u) c.update x r (may_suits d c k x h) e (rw (may_file d c k x h) n)

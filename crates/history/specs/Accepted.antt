@@ -1,8 +1,7 @@
 -- A call that no row of the response table refuses: what each row's failing says, for whoever reasons about its effect.
 -- Assumes nothing.
-use Rattle.std.specs.Prelude.{ℕ, ◌≡◌, refl, Bool, true, false, ◌&&◌, List, [], ◌∷◌, eqb}
+use Rattle.std.specs.Prelude.{ℕ, ◌≡◌, refl, Bool, true, false, ◌&&◌, List, [], ◌∷◌, eqb, Option, Some, None}
 use Rattle.std.proofs.Common.{ap}
-use Rattle.std.proofs.Math.Option.{Option, none, some}
 use Rattle.lists.specs.Tests.{Outcome, holds, fails, outcome, not_both, or-true, eqb_self}
 use Rattle.lists.specs.Folds.{any, Each}
 use Rattle.nucleus.specs.Responses.{number}
@@ -12,8 +11,8 @@ use Rattle.nucleus.specs.declared.Response.{Response}
 
 -- whether a cause was found
 abbrev pub is_cause : Option Response → Bool
-is_cause none = false
-is_cause (some c) = true
+is_cause None = false
+is_cause (Some c) = true
 
 none_held : (r : Row) (rs : List Row) → is_cause (first_cause (r ∷ rs)) ≡ false → (r.holds ≡ false) × (is_cause (first_cause rs) ≡ false)
 none_held r rs h = go r.holds refl
@@ -27,11 +26,11 @@ no_row [] h = tt
 no_row (r ∷ rs) h = let p = none_held r rs h in (p.0, no_row rs p.1)
 
 -- ---- the row of the first cause holds
-pub first_holds : (k : ℕ) (rs : List Row) (c : Response) → first_cause rs ≡ some c → number c ≡ k → any (λ (r : Row). eqb (number r.cause) k && r.holds) rs ≡ true
+pub first_holds : (k : ℕ) (rs : List Row) (c : Response) → first_cause rs ≡ Some c → number c ≡ k → any (λ (r : Row). eqb (number r.cause) k && r.holds) rs ≡ true
 first_holds k [] c e same = not_both false (ap is_cause e) refl
 first_holds k (r ∷ rs) c e same = go (outcome r.holds) (first_holds k rs c)
   where
-    go : Outcome r.holds → (first_cause rs ≡ some c → number c ≡ k → any (λ (x : Row). eqb (number x.cause) k && x.holds) rs ≡ true)
+    go : Outcome r.holds → (first_cause rs ≡ Some c → number c ≡ k → any (λ (x : Row). eqb (number x.cause) k && x.holds) rs ≡ true)
         → any (λ (x : Row). eqb (number x.cause) k && x.holds) (r ∷ rs) ≡ true
     go (holds t) later =
         let first : r.cause ≡ c = cc (rw t at e) in

@@ -1,8 +1,7 @@
 -- What a hand-over leaves of the journal (document 02, No. 1): its clock and changes, whoever is in a transaction, and a line that nobody joins.
 -- Assumes nothing.
-use Rattle.std.specs.Prelude.{ℕ, zero, suc, ◌+◌, ◌-◌, max, ◌≡◌, refl, Bool, true, false, not, ◌&&◌, List, [], ◌∷◌, eqb, set, get_or}
+use Rattle.std.specs.Prelude.{ℕ, zero, suc, ◌+◌, ◌-◌, max, ◌≡◌, refl, Bool, true, false, not, ◌&&◌, List, [], ◌∷◌, eqb, set, get_or, Option, Some, None}
 use Rattle.std.proofs.Common.{ap, ◌∙◌, get_or-set_other, eqb-true}
-use Rattle.std.proofs.Math.Option.{Option, none, some}
 use Rattle.std.proofs.lemmas.List.{set-get_or}
 use Rattle.std.proofs.lemmas.Bool.{eqb-false}
 use Rattle.lists.specs.Tests.{cond, Outcome, holds, fails, outcome, not_both}
@@ -23,8 +22,8 @@ started_same u v j h = go (outcome (eqb (v - 1) (u - 1)))
     m w = record { limit = (member j w).limit; start = start_at j.clock (member j w).start; ready = (member j w).ready }
 
     started_at : (x : Option ℕ) → has_start x ≡ true → start_at j.clock x ≡ x
-    started_at none t = not_both false t refl
-    started_at (some begun) t = refl
+    started_at None t = not_both false t refl
+    started_at (Some begun) t = refl
 
     like : (w : ℕ) → has_start (member j w).start ≡ true → m w ≡ member j w
     like w t = λ i. record { limit = (member j w).limit; start = started_at (member j w).start t i; ready = (member j w).ready }
@@ -56,8 +55,8 @@ spared_then a b c p q = record {
 
 spared_to : (x : Option ℕ) (file isn : ℕ) (j : Journal) → Spared j (log_handed_to x file isn j)
 unfolding log_start
-spared_to none file isn j = spared_none j
-spared_to (some u) file isn j = record {
+spared_to None file isn j = spared_none j
+spared_to (Some u) file isn j = record {
   same_clock = refl;
   same_changes = refl;
   same_member = λ v t. started_same u v j t;
@@ -116,6 +115,6 @@ clock_not_joined clock v j h =
     late_not_joined max_users 1 v (record { clock = max j.clock clock; members = j.members; changes = j.changes; holds = j.holds; line = j.line }) h
 
 -- a call of a command that may not wait leaves the line
-pub left_by_out : (c : Command) (call : Call) (j : Journal) → one_of may_wait c ≡ false → in_line call.user (log_left_by (some c) call j).line ≡ false
+pub left_by_out : (c : Command) (call : Call) (j : Journal) → one_of may_wait c ≡ false → in_line call.user (log_left_by (Some c) call j).line ≡ false
 unfolding log_left_by log_leave
 left_by_out c call j h = rw h (left_out call.user j.line)

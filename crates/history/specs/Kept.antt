@@ -1,8 +1,7 @@
 -- What holds of nucleus and journal after any list of calls: the state is well made, nothing past the sizes of what was lent is touched, the
 -- journal has its clock and its transactions, and the argument of requirement 3 (`Invariant` of `transactions`) holds of what is seen of store,
 -- queue and images.
-use Rattle.std.specs.Prelude.{ℕ, ◌-◌, ◌≡◌, Bool, true, not, ◌&&◌, ◌||◌, List, map, leb, ltb, length, get_or}
-use Rattle.std.proofs.Math.Option.{Option, none, some}
+use Rattle.std.specs.Prelude.{ℕ, ◌-◌, ◌≡◌, Bool, true, not, ◌&&◌, ◌||◌, List, map, leb, ltb, length, get_or, Option, Some, None}
 use Rattle.lists.specs.Tests.{cond, within}
 use Rattle.lists.specs.Folds.{all}
 use Rattle.definition.specs.Table.{files_of}
@@ -51,7 +50,7 @@ entry_active us e = active_in us e.user
 
 -- a user as the journal has him: who has no session has the default limit
 abbrev pub start_of : User → Option ℕ
-start_of u = cond (is_active u) (some u.transaction.begun) none
+start_of u = cond (is_active u) (Some u.transaction.begun) None
 
 abbrev pub member_of : User → Member
 member_of u = record { limit = cond u.session u.time_limit default_time_limit; start = start_of u; ready = is_active u && is_ready u }

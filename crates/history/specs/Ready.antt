@@ -2,10 +2,9 @@
 -- Assumes nothing.
 use Prim.Native.Nat.{ℕ, zero, suc, ◌+◌, ◌-◌, ◌≤◌, max}
 use Rattle.std.proofs.Common.{arith, sym, ap, ◌∙◌, append-nil, eqb-true}
-use Rattle.std.specs.Prelude.{◌≡◌, ◌≢◌, Bool, ◌&&◌, List, [], ◌∷◌, map, eqb}
+use Rattle.std.specs.Prelude.{◌≡◌, ◌≢◌, Bool, ◌&&◌, List, [], ◌∷◌, map, eqb, Option, Some, None}
 use Rattle.std.proofs.Math.Path.{refl}
 use Rattle.std.proofs.Math.Bool.{true, false, not, and-true}
-use Rattle.std.proofs.Math.Option.{Option, none, some}
 use Rattle.std.proofs.Math.Seq.{get_or-set_other}
 use Rattle.std.proofs.lemmas.Bool.{eqb-false}
 use Rattle.lists.specs.Tests.{cond, Outcome, holds, fails, outcome, and-false}
@@ -207,8 +206,8 @@ module _ (u : ℕ) (least : 1 ≤ u) where
 
         awaited_answered : (x : Option Command) (response : ℕ) → Awaited u j (log_answered x call format buffer response isn j)
         unfolding log_join
-        awaited_answered none response = awaited_still u j
-        awaited_answered (some c) response = go (eqb response 0) (eqb response 9 && one_of on_session c) (eqb response 20)
+        awaited_answered None response = awaited_still u j
+        awaited_answered (Some c) response = go (eqb response 0) (eqb response 9 && one_of on_session c) (eqb response 20)
           where
             go : (good out joins : Bool) → Awaited u j (cond good (log_accepted c call format buffer isn j) (cond out (struck v j) (cond joins (log_join c call j) j)))
             go true out joins = awaited_accepted c

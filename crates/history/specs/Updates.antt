@@ -1,7 +1,6 @@
 -- The changes of the journal as the abstract machine's kinds of change: what each makes of the slot at a key, where it may be made, and which
 -- unique fields it judges ("N1 and N2 judge every unique field, A1 the named ones").
-use Rattle.std.specs.Prelude.{ℕ, Bool, true, false, ◌&&◌, List, map, eqb, length}
-use Rattle.std.proofs.Math.Option.{none, some}
+use Rattle.std.specs.Prelude.{ℕ, Bool, true, false, ◌&&◌, List, map, eqb, length, Some, None}
 use Rattle.lists.specs.Folds.{any}
 use Rattle.definition.specs.declared.Definition.{Definition}
 use Rattle.records.specs.Records.{record_length}
@@ -19,8 +18,8 @@ pub record FileUpdate : Type 0 where
 
 -- A1 needs a record of the file's width
 abbrev pub has_width : ℕ → Slot → Bool
-has_width n none = false
-has_width n (some r) = eqb (length r) n
+has_width n None = false
+has_width n (Some r) = eqb (length r) n
 
 abbrev pub suits : Definition → ℕ → Update → Slot → Bool
 suits d file (replace format values) x = has_width (record_length (file_of d file)) x

@@ -1,5 +1,5 @@
 -- The back-out (document 01, 'Hold, change, end').
-use Rattle.std.specs.Prelude.{ℕ, ◌*◌, Bool, ◌&&◌, List, [], ◌∷◌, eqb, leb, length, take, drop}
+use Rattle.std.specs.Prelude.{ℕ, ◌*◌, Bool, ◌&&◌, List, [], ◌∷◌, eqb, leb, length, take, drop, Option, Some, None}
 use Rattle.lists.specs.Tests.{cond}
 use Rattle.definition.specs.Table.{file_at}
 use Rattle.records.specs.Records.{record_length}
@@ -8,8 +8,6 @@ use Rattle.store.specs.Store.{put_record, empty, file_part, with_part}
 use Rattle.entries.specs.Entries.{entries}
 use Rattle.definition.specs.declared.File.{File}
 use Rattle.definition.specs.declared.Definition.{Definition}
-use Rattle.records.specs.declared.Found.{Found}
-use Rattle.records.specs.declared.Found.TheVariants.{At, Nowhere}
 use Rattle.entries.specs.declared.Entry.{Entry}
 
 -- ---- "A back-out puts every changed entry's image back, or makes its ISN empty where no record was"
@@ -17,9 +15,9 @@ use Rattle.entries.specs.declared.Entry.{Entry}
 unfoldable pub put_back_in : File → Entry → List ℕ → List ℕ → List ℕ
 put_back_in f e image part = cond e.existed (put_record f part e.isn (take (record_length f) image)) (empty f part e.isn)
 
-abbrev pub put_back_at : Definition → Found → Entry → List ℕ → List ℕ → List ℕ
-put_back_at d (At i) e image store = with_part d i store (put_back_in (file_at d i) e image (file_part d i store))
-put_back_at d Nowhere e image store = store
+abbrev pub put_back_at : Definition → Option ℕ → Entry → List ℕ → List ℕ → List ℕ
+put_back_at d (Some i) e image store = with_part d i store (put_back_in (file_at d i) e image (file_part d i store))
+put_back_at d None e image store = store
 
 -- in the store, where it is as long as the table asks
 unfoldable pub put_back : Definition → Entry → List ℕ → List ℕ → List ℕ

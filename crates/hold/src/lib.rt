@@ -11,7 +11,6 @@ ghost use Rattle.hold.specs.Tables.{file_number, seek_number, undone_at};
 
 use definition::{Definition, File, MAX_FILES};
 use entries::Entry;
-use records::Found;
 
 // A start for each place, and the store's end.
 const STARTS: usize = MAX_FILES + 1;
@@ -47,28 +46,28 @@ fn file_starts(d: Definition) -> [usize; STARTS]
 }
 
 // The place of a file's number.
-fn place(numbers: &[u8], number: u8) -> Found
+fn place(numbers: &[u8], number: u8) -> Option<usize>
     ensures { result ≡ seek_number number numbers.now 0 }
 {
     let mut i = 0;
     while i < numbers.len() {
         if numbers[i] == number {
-            return Found::At(i);
+            return Some(i);
         }
         i += 1;
     }
-    Found::Nowhere
+    None
 }
 
 // The place of the file in which an entry is undone: nowhere, where it is not the user's or not changed.
-fn undone_at(numbers: &[u8], user: u8, e: Entry) -> Found
+fn undone_at(numbers: &[u8], user: u8, e: Entry) -> Option<usize>
     ensures { result ≡ undone_at numbers.now user e }
 {
     if e.user != user {
-        return Found::Nowhere;
+        return None;
     }
     if !e.changed {
-        return Found::Nowhere;
+        return None;
     }
     place(numbers, e.file)
 }
@@ -120,7 +119,7 @@ fn put_back_all(
         let at = i * width;
         i += 1;
         let found = undone_at(numbers, user, e);
-        if let Found::At(k) = found {
+        if let Some(k) = found {
             let f = d.files[k];
             let start = starts[k];
             let end = starts[k + 1];

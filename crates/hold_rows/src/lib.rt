@@ -10,27 +10,27 @@ ghost use Rattle.nucleus.specs.Rows.{first_cause};
 ghost use Rattle.shares.specs.Shares.{verdict};
 ghost use Rattle.shares.specs.Chains.{at_limit, row_waits, row_other, rows_room};
 
+use entries::Entry;
 use nucleus::{Call, Response, WAIT};
-use queue::Lookup;
-use shares::{Share, Verdict};
+use shares::Share;
 
 // Whether the entry that a lookup found is another user's.
-pub fn other_holds(found: Lookup, user: u8) -> bool
+pub fn other_holds(found: Option<(usize, Entry)>, user: u8) -> bool
     ensures { result ≡ other_holds user found }
 {
     match found {
-        Lookup::Held(_, entry) => entry.user != user,
-        Lookup::Free => false,
+        Some((_, entry)) => entry.user != user,
+        None => false,
     }
 }
 
 // Whether it is the user's.
-fn is_holder(found: Lookup, user: u8) -> bool
+fn is_holder(found: Option<(usize, Entry)>, user: u8) -> bool
     ensures { result ≡ is_holder user found }
 {
     match found {
-        Lookup::Held(_, entry) => entry.user == user,
-        Lookup::Free => false,
+        Some((_, entry)) => entry.user == user,
+        None => false,
     }
 }
 
@@ -63,31 +63,31 @@ fn waits(call: Call, share: Share, queue: &[u64]) -> bool
 }
 
 // HI's and L4's rows of an ISN that another holds: who waits for it, who does not.
-pub fn others(call: Call, share: Share, queue: &[u64], isn: u16) -> Verdict
+pub fn others(call: Call, share: Share, queue: &[u64], isn: u16) -> Result<(), Response>
     ensures { result ≡ verdict (first_cause (row_waits call share queue.now isn ∷ row_other call share queue.now isn ∷ [])) }
 {
     let found = queue::holder(queue, share.count, call.file, isn);
     if !other_holds(found, call.user) {
-        return Verdict::Passed;
+        return Ok(());
     }
     if waits(call, share, queue) {
-        return Verdict::Refused(Response::Waiting);
+        return Err(Response::Waiting);
     }
-    Verdict::Refused(Response::HeldByAnother)
+    Err(Response::HeldByAnother)
 }
 
 // The rows of a new entry: the user at or past his hold limit, the queue with `most` entries. Who has an entry already needs none.
-pub fn room(call: Call, share: Share, queue: &[u64], most: usize, isn: u16) -> Verdict
+pub fn room(call: Call, share: Share, queue: &[u64], most: usize, isn: u16) -> Result<(), Response>
     ensures { result ≡ verdict (first_cause (rows_room call share queue.now most isn)) }
 {
     if held_by_caller(call, queue, share.count, isn) {
-        return Verdict::Passed;
+        return Ok(());
     }
     if at_limit(call, share, queue) {
-        return Verdict::Refused(Response::HoldLimit);
+        return Err(Response::HoldLimit);
     }
     if most <= share.count {
-        return Verdict::Refused(Response::QueueFull);
+        return Err(Response::QueueFull);
     }
-    Verdict::Passed
+    Ok(())
 }

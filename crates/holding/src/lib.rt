@@ -9,7 +9,7 @@ ghost use Rattle.shares.specs.Chains.{held_share, held_queue};
 use definition::File;
 use entries::Entry;
 use nucleus::Call;
-use shares::{Done, Share, Verdict};
+use shares::{Done, Share};
 
 // One more entry, where the queue has a place for it.
 fn next_count(count: usize, places: usize) -> usize
@@ -62,11 +62,11 @@ pub fn hi(
     ensures queue_after { queue.new ≡ hi_queue call share queue.old most f part.now }
 {
     let others = hold_rows::others(call, share, queue, call.isn);
-    if let Verdict::Refused(cause) = others {
+    if let Err(cause) = others {
         return shares::refused(cause, share);
     }
     let verdict = hold_rows::room(call, share, queue, most, call.isn);
-    if let Verdict::Refused(cause) = verdict {
+    if let Err(cause) = verdict {
         return shares::refused(cause, share);
     }
     let existed = store::has_record(f, part, call.isn);

@@ -1,6 +1,6 @@
 -- The longest definition table that breaks no rule.
 -- Assumes nothing.
-use Rattle.std.specs.Prelude.{ℕ, zero, suc, ◌+◌, ◌-◌, ◌*◌, ◌≤◌, ◌<◌, ◌≡◌, refl, Bool, true, false, List, ltb, eqb, length, drop}
+use Rattle.std.specs.Prelude.{ℕ, zero, suc, ◌+◌, ◌-◌, ◌*◌, ◌≤◌, ◌<◌, ◌≡◌, refl, Bool, true, false, List, ltb, eqb, length, drop, Some, Option, None}
 use Rattle.std.proofs.Common.{arith, ap, ◌∙◌, lit≤, length-set, get_or-set_same, ltb-true, ne_eqb}
 use Rattle.lists.specs.Tests.{within, cond, within_least, within_most, and_left, and_right}
 use Rattle.definition.specs.Table.{max_files, max_fields, beyond, no_definition}
@@ -9,9 +9,8 @@ use Rattle.definition.specs.declared.Field.{Field}
 use Rattle.validity.specs.Validity.{valid}
 use Rattle.items.specs.Items.{item_of}
 use Rattle.items.specs.declared.Item.{Item}
-use Rattle.items.specs.declared.Item.TheVariants.{File as item_file, Field as item_field, End as item_end, Broken as item_broken}
+use Rattle.items.specs.declared.Item.TheVariants.{File as item_file, Field as item_field, End as item_end}
 use Rattle.reading.specs.Grammar.{room_for_file, room_for_field, add_file, add_field, last_file, broken, proceed, read_from, read_table}
-use Rattle.reading.specs.declared.End.TheVariants.{At}
 use Rattle.reading.specs.declared.Reading.{Reading}
 
 -- the bytes of fields that the last file may have still
@@ -52,7 +51,7 @@ module _ (at : ℕ) (d : Definition) (r : Room at d) where
 
 -- ---- a reading that has an end has it within them
 data Short : Reading → Type 0 where
-  ends : {d : Definition} {e : ℕ} → e ≤ 1601 → Short (record { end = At e; definition = d })
+  ends : {d : Definition} {e : ℕ} → e ≤ 1601 → Short (record { end = Some e; definition = d })
   refused : Short broken
 
 cond_short : (b : Bool) (r : Reading) → (b ≡ true → Short r) → Short (cond b r broken)
@@ -64,17 +63,17 @@ unfolding read_from
 from_short zero bytes at d r = refused
 from_short (suc fuel) bytes at d r = go (item_of (drop at bytes)) (from_short fuel bytes)
   where
-    go : (i : Item) → ((at : ℕ) (d : Definition) → Room at d → Short (read_from fuel bytes at d)) → Short (proceed (read_from fuel bytes) at d i)
-    go (item_file n m) later = cond_short (room_for_file d) _ (λ h. later (at + 4) (add_file d n m) (file_room at d r n m h))
-    go (item_field f) later = cond_short (room_for_field d) _ (λ h. later (at + 6) (add_field d f) (field_room at d r f h))
-    go item_end later = cond_short (valid d) _ (λ h. ends (omega (arith, r.left)))
-    go item_broken later = refused
+    go : (i : Option Item) → ((at : ℕ) (d : Definition) → Room at d → Short (read_from fuel bytes at d)) → Short (proceed (read_from fuel bytes) at d i)
+    go (Some (item_file n m)) later = cond_short (room_for_file d) _ (λ h. later (at + 4) (add_file d n m) (file_room at d r n m h))
+    go (Some (item_field f)) later = cond_short (room_for_field d) _ (λ h. later (at + 6) (add_field d f) (field_room at d r f h))
+    go (Some item_end) later = cond_short (valid d) _ (λ h. ends (omega (arith, r.left)))
+    go None later = refused
 
 -- sixteen files of sixteen fields, and the end
-pub table_most : (bytes : List ℕ) (e : ℕ) → (read_table bytes).end ≡ At e → e ≤ 1601
+pub table_most : (bytes : List ℕ) (e : ℕ) → (read_table bytes).end ≡ Some e → e ≤ 1601
 unfolding read_table
 table_most bytes e = go (read_table bytes) (from_short (length bytes) bytes 0 no_definition (record { places = refl; left = lit≤ tt }))
   where
-    go : (r : Reading) → Short r → r.end ≡ At e → e ≤ 1601
+    go : (r : Reading) → Short r → r.end ≡ Some e → e ≤ 1601
     go r (ends {e = e'} h) q = let same : e' ≡ e = cc in rw (← same) h
     go r refused q = absurd (let z : ◌≡◌ {A = ℕ} 0 1 = cc in omega arith)

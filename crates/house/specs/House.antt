@@ -1,20 +1,17 @@
 -- The house call list (document 01): one item of the definition table and one call as bytes.
-use Rattle.std.specs.Prelude.{ℕ, ◌+◌, ◌-◌, ◌*◌, Bool, true, ◌&&◌, List, eqb, leb, length, get_or, take, drop}
-use Rattle.std.proofs.Math.Option.{Option, none, some}
+use Rattle.std.specs.Prelude.{ℕ, ◌+◌, ◌-◌, ◌*◌, Bool, true, ◌&&◌, List, eqb, leb, length, get_or, take, drop, Option, Some, None}
 use Rattle.lists.specs.Tests.{cond, within}
 use Rattle.nucleus.specs.Commands.{code_at}
 use Rattle.nucleus.specs.Nucleus.{Given, given}
 use Rattle.nucleus.specs.declared.Call.{Call}
 use Rattle.lines.specs.Lines.{Within}
-use Rattle.house.specs.declared.Rest.{Rest}
-use Rattle.house.specs.declared.Rest.TheVariants.{Bytes, Unknown}
 use Rattle.house.specs.declared.Sent.{Sent}
 
 -- ---- the definition table
 -- the bytes behind an item's kind: "Kind 1, a file: number (1 byte ..), highest ISN (2 bytes ..)", "Kind 2, a field ..: name (2 bytes ..), length (1 byte),
 -- format (1 byte), option (1 byte ..)", "Kind 0, the end, no body"
-unfoldable pub rest_of_item : ℕ → Rest
-rest_of_item kind = cond (eqb kind 0) (Bytes 0) (cond (eqb kind 1) (Bytes 3) (cond (eqb kind 2) (Bytes 5) Unknown))
+unfoldable pub rest_of_item : ℕ → Option ℕ
+rest_of_item kind = cond (eqb kind 0) (Some 0) (cond (eqb kind 1) (Some 3) (cond (eqb kind 2) (Some 5) None))
 
 -- ---- a call
 -- "A call is one byte, its place in the table of commands HI RI L1 L4 A1 E1 N1 N2 ET BT RE OP CL from 1, then 64 bytes: user 1, option 1, file 1, ISN 2,
@@ -88,11 +85,11 @@ given_by bytes =
 
 -- the call that bytes begin with, or a bad one
 unfoldable pub call_of : List ℕ → Option Given
-call_of bytes = cond (well_formed bytes) (some (given_by bytes)) none
+call_of bytes = cond (well_formed bytes) (Some (given_by bytes)) None
 
 -- what is answered of a call: one that is not good means nothing
 unfoldable pub sent_as : Sent → Option Given
-sent_as s = cond s.good (some (given s.call (take s.format_length s.format) (take s.buffer_length s.buffer))) none
+sent_as s = cond s.good (Some (given s.call (take s.format_length s.format) (take s.buffer_length s.buffer))) None
 
 abbrev pub Lengths : Sent → Type 0
 Lengths s = Within s.format_length s.format × Within s.buffer_length s.buffer

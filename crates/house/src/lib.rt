@@ -36,21 +36,14 @@ const MAX_FORMAT: usize = 16;
 
 const MAX_BUFFER: usize = 35;
 
-// The bytes that follow an item's kind; for kind 0, which ends a table, there are none.
-#[derive(Clone, Copy)]
-pub enum Rest {
-    Bytes(usize),
-    Unknown,
-}
-
-pub fn rest_of_item(kind: u8) -> Rest
+pub fn rest_of_item(kind: u8) -> Option<usize>
     ensures { result ≡ rest_of_item kind }
 {
     match kind {
-        0 => Rest::Bytes(0),
-        1 => Rest::Bytes(3),
-        2 => Rest::Bytes(5),
-        _ => Rest::Unknown,
+        0 => Some(0),
+        1 => Some(3),
+        2 => Some(5),
+        _ => None,
     }
 }
 

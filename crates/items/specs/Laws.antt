@@ -1,22 +1,20 @@
 -- An item is no longer than the bytes that it was read from; of no bytes there is none.
 -- Assumes nothing.
-use Rattle.std.specs.Prelude.{ℕ, ◌+◌, ◌≤◌, ◌≡◌, refl, List, [], eqb, ltb, length, get_or, drop}
+use Rattle.definition.specs.declared.Format.{Format}
+use Rattle.definition.specs.declared.FieldOption.{FieldOption}
+use Rattle.std.specs.Prelude.{ℕ, ◌+◌, ◌≤◌, ◌≡◌, refl, List, [], eqb, ltb, length, get_or, drop, Option, Some, None}
 use Rattle.std.proofs.Common.{arith, length-drop, ltb-false}
 use Rattle.std.proofs.lemmas.Bool.{eqb-false}
 use Rattle.lists.specs.Tests.{Outcome, holds, fails, outcome}
 use Rattle.items.specs.Items.{format_of, option_of, file_item, field_typed, field_item, item_of}
-use Rattle.items.specs.declared.FormatByte.{FormatByte}
-use Rattle.items.specs.declared.FormatByte.TheVariants.{Known as format_known, Unknown as format_unknown}
-use Rattle.items.specs.declared.OptionByte.{OptionByte}
-use Rattle.items.specs.declared.OptionByte.TheVariants.{Known as option_known, Unknown as option_unknown}
 use Rattle.items.specs.declared.Item.{Item}
-use Rattle.items.specs.declared.Item.TheVariants.{File as item_file, Field as item_field, End as item_end, Broken as item_broken}
+use Rattle.items.specs.declared.Item.TheVariants.{File as item_file, Field as item_field, End as item_end}
 
-abbrev pub item_size : Item → ℕ
-item_size (item_file n m) = 4
-item_size (item_field f) = 6
-item_size item_end = 1
-item_size item_broken = 0
+abbrev pub item_size : Option Item → ℕ
+item_size (Some (item_file n m)) = 4
+item_size (Some (item_field f)) = 6
+item_size (Some item_end) = 1
+item_size None = 0
 
 file_fits : (body : List ℕ) → item_size (file_item body) ≤ length body + 1
 unfolding file_item
@@ -26,10 +24,10 @@ file_fits body = go (outcome (ltb (length body) 3))
     go (holds e) = rw e (omega arith)
     go (fails e) = rw e (omega (arith, ltb-false (length body) 3 e))
 
-typed_fits : (body : List ℕ) (f : FormatByte) (o : OptionByte) → item_size (field_typed body f o) ≤ 6
-typed_fits body format_unknown o = omega arith
-typed_fits body (format_known f) option_unknown = omega arith
-typed_fits body (format_known f) (option_known o) = omega arith
+typed_fits : (body : List ℕ) (f : Option Format) (o : Option FieldOption) → item_size (field_typed body f o) ≤ 6
+typed_fits body None o = omega arith
+typed_fits body (Some f) None = omega arith
+typed_fits body (Some f) (Some o) = omega arith
 
 field_fits : (body : List ℕ) → item_size (field_item body) ≤ length body + 1
 unfolding field_item
@@ -57,6 +55,6 @@ item_fits bytes = go (outcome (eqb (length bytes) 0)) (outcome (eqb k 0)) (outco
         rw (e, q, r, s) (omega (arith, z, field_fits (drop 1 bytes), length-drop 1 bytes))
     go (fails e) (fails q) (fails r) (fails s) = rw (e, q, r, s) (omega arith)
 
-pub item_none : item_of [] ≡ item_broken
+pub item_none : item_of [] ≡ None
 unfolding item_of
 item_none = refl

@@ -8,7 +8,6 @@ ghost use Rattle.shares.specs.Chains.{held_share, imaged_queue, imaged_images};
 
 use definition::File;
 use nucleus::Call;
-use queue::Lookup;
 use shares::Share;
 
 // Holds an ISN, and keeps the content as the image of its entry at the entry's first change, if a record existed.
@@ -29,7 +28,7 @@ fn keep(
 {
     let held = holding::hold(call, clock, share, queue, isn, existed);
     let found = queue::holder(queue, held.count, call.file, isn);
-    let Lookup::Held(at, _) = found else {
+    let Some((at, _)) = found else {
         return held;
     };
     changes::first_change(queue, images, width, at, existed, content);

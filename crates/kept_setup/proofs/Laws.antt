@@ -1,5 +1,5 @@
 -- Set-up with a kept state from set-up on words; the sizes of a table are enough for it; and a bound of an image's bytes. Assumes nothing.
-use Rattle.std.specs.Prelude.{ℕ, ◌*◌, ◌≤◌, ◌≡◌, false, List, [], ◌∷◌, map}
+use Rattle.std.specs.Prelude.{ℕ, ◌*◌, ◌≤◌, ◌≡◌, false, List, [], ◌∷◌, map, Some}
 use Rattle.std.proofs.Common.{zero-le, arith, ap, ◌∙◌}
 use Rattle.std.proofs.Math.Path.{subst}
 use Rattle.std.proofs.Math.ListN.{length, length-map}
@@ -14,7 +14,6 @@ use Rattle.records.specs.Records.{record_length}
 use Rattle.records.specs.Bounds.{record_length_most}
 use Rattle.layout.specs.Layout.{store_size, image_length}
 use Rattle.reading.specs.Grammar.{read_table}
-use Rattle.reading.specs.declared.End.TheVariants.{At}
 use Rattle.entries.specs.Entries.{pack_of}
 use Rattle.entries.specs.declared.Entry.{Entry}
 use Rattle.nucleus.specs.Nucleus.{max_capacity}
@@ -45,7 +44,7 @@ unfolding kept_set_up
 made_thawed capacity store queue images table = state_back _ (set_up_tidy capacity store queue images table)
 
 -- ---- a table that is read whole: the sizes, and that they are enough
-module _ (table : List ℕ) (whole : (read_table table).end ≡ At (length table)) where
+module _ (table : List ℕ) (whole : (read_table table).end ≡ Some (length table)) where
   abbrev d : Definition
   d = (read_table table).definition
 

@@ -1,10 +1,8 @@
 -- Set-up with the state as a caller keeps it, through the definition of set-up, and the bytes that a table asks for.
-use Rattle.std.specs.Prelude.{ℕ, ◌*◌, List, eqb, ltb, length}
+use Rattle.std.specs.Prelude.{ℕ, ◌*◌, List, eqb, ltb, length, Option, Some, None}
 use Rattle.lists.specs.Tests.{cond}
 use Rattle.layout.specs.Layout.{store_size, image_length}
 use Rattle.reading.specs.Grammar.{read_table}
-use Rattle.reading.specs.declared.End.{End}
-use Rattle.reading.specs.declared.End.TheVariants.{At, Broken}
 use Rattle.entries.specs.declared.Entry.{Entry}
 use Rattle.nucleus.specs.Nucleus.{max_capacity}
 use Rattle.nucleus.specs.Responses.{number}
@@ -33,9 +31,9 @@ unfoldable pub kept_set_up : ℕ → List ℕ → List Entry → List ℕ → Li
 kept_set_up capacity store queue images table = kept_made_of (set_up_database capacity store queue images table)
 
 -- ---- sizes: none for a table that set-up refuses with 10
-abbrev pub of_table : End → ℕ → ℕ → ℕ
-of_table Broken size bytes = 0
-of_table (At end) size bytes = cond (eqb end size) bytes 0
+abbrev pub of_table : Option ℕ → ℕ → ℕ → ℕ
+of_table None size bytes = 0
+of_table (Some end) size bytes = cond (eqb end size) bytes 0
 
 unfoldable pub store_bytes : List ℕ → ℕ
 store_bytes table = of_table (read_table table).end (length table) (store_size (read_table table).definition)

@@ -3,7 +3,7 @@
 -- Assumes nothing.
 use Prim.Native.Nat.{ℕ, zero, suc, ◌+◌, ◌-◌, ◌≤◌, ◌<◌}
 use Rattle.std.proofs.Common.{arith, sym, ap, ◌∙◌, length-set, drop-drop, drop-set-lt, ltb-true}
-use Rattle.std.specs.Prelude.{◌≡◌, refl, Bool, true, false, List, map, eqb, ltb, length, drop, set}
+use Rattle.std.specs.Prelude.{◌≡◌, refl, Bool, true, false, List, map, eqb, ltb, length, drop, set, Option, Some, None}
 use Rattle.lists.specs.Tests.{cond, within, within_least, and_left, and_right}
 use Rattle.lists.specs.Folds.{Each, each_at, each_take, each_replicate, each_set}
 use Rattle.definition.specs.Table.{max_fields, max_files, no_file, beyond, no_definition, field_count, file_count}
@@ -13,10 +13,8 @@ use Rattle.definition.specs.declared.Definition.{Definition}
 use Rattle.validity.specs.Validity.{valid}
 use Rattle.items.specs.Items.{item_of}
 use Rattle.items.specs.declared.Item.{Item}
-use Rattle.items.specs.declared.Item.TheVariants.{File as item_file, Field as item_field, End as item_end, Broken as item_broken}
+use Rattle.items.specs.declared.Item.TheVariants.{File as item_file, Field as item_field, End as item_end}
 use Rattle.reading.specs.Grammar.{room_for_file, add_file, last_file, room_for_field, with_field, add_field, broken, proceed, read_from, read_table}
-use Rattle.reading.specs.declared.End.{End}
-use Rattle.reading.specs.declared.End.TheVariants.{At, Broken}
 use Rattle.reading.specs.declared.Reading.{Reading}
 use Rattle.entries.specs.Entries.{pack_of}
 use Rattle.entries.specs.declared.Entry.{Entry}
@@ -89,11 +87,11 @@ cond_tidy true r t = t refl
 cond_tidy false r t = none_tidy
 
 module _ (on : ℕ → Definition → Reading) (later : (at : ℕ) (d : Definition) → Grown d → TidyReading (on at d)) where
-  proceed_tidy : (at : ℕ) (d : Definition) (i : Item) → Grown d → TidyReading (proceed on at d i)
-  proceed_tidy at d (item_file n m) g = cond_tidy (room_for_file d) (on (at + 4) (add_file d n m)) (λ h. later (at + 4) (add_file d n m) (file_added d n m g h))
-  proceed_tidy at d (item_field f) g = cond_tidy (room_for_field d) (on (at + 6) (add_field d f)) (λ h. later (at + 6) (add_field d f) (field_added d f g h))
-  proceed_tidy at d item_end g = cond_tidy (valid d) _ (λ v. grown_tidy d g)
-  proceed_tidy at d item_broken g = none_tidy
+  proceed_tidy : (at : ℕ) (d : Definition) (i : Option Item) → Grown d → TidyReading (proceed on at d i)
+  proceed_tidy at d (Some (item_file n m)) g = cond_tidy (room_for_file d) (on (at + 4) (add_file d n m)) (λ h. later (at + 4) (add_file d n m) (file_added d n m g h))
+  proceed_tidy at d (Some (item_field f)) g = cond_tidy (room_for_field d) (on (at + 6) (add_field d f)) (λ h. later (at + 6) (add_field d f) (field_added d f g h))
+  proceed_tidy at d (Some item_end) g = cond_tidy (valid d) _ (λ v. grown_tidy d g)
+  proceed_tidy at d None g = none_tidy
 
 module _ (bytes : List ℕ) where
   from_tidy : (fuel at : ℕ) (d : Definition) → Grown d → TidyReading (read_from fuel bytes at d)
@@ -120,9 +118,9 @@ module _ (capacity : ℕ) (store : List ℕ) (queue : List Entry) (images table 
   as_tidy : (d : Definition) → Tidy d → TidySetUp (set_up_as capacity store words images d)
   as_tidy d t = set_up_cond (too_short d capacity store words images) _ _ none_tidy t
 
-  at_tidy : (e : End) (size : ℕ) (d : Definition) → Tidy d → TidySetUp (set_up_at capacity store words images e size d)
-  at_tidy Broken size d t = none_tidy
-  at_tidy (At end) size d t = set_up_cond (eqb end size) _ _ (as_tidy d t) none_tidy
+  at_tidy : (e : Option ℕ) (size : ℕ) (d : Definition) → Tidy d → TidySetUp (set_up_at capacity store words images e size d)
+  at_tidy None size d t = none_tidy
+  at_tidy (Some end) size d t = set_up_cond (eqb end size) _ _ (as_tidy d t) none_tidy
 
   pub set_up_tidy : Tidy (set_up_database capacity store queue images table).database.state.definition
   unfolding set_up_database set_up

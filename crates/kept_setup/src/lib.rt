@@ -10,7 +10,6 @@ ghost use Rattle.kept_setup.specs.KeptSetup.{kept_made, kept_set_up, store_bytes
 use definition::Definition;
 use kept_states::KeptState;
 use nucleus::MAX_CAPACITY;
-use reading::End;
 
 // What set-up gives: the state, and the response's number.
 #[derive(Clone, Copy)]
@@ -46,7 +45,7 @@ pub fn store_bytes(table: &[u8]) -> usize
 {
     let read = reading::read(table);
     let end = read.end;
-    let End::At(at) = end else {
+    let Some(at) = end else {
         return 0;
     };
     if at != table.len() {
@@ -72,7 +71,7 @@ pub fn image_bytes(table: &[u8], capacity: usize) -> usize
     }
     let read = reading::read(table);
     let end = read.end;
-    let End::At(at) = end else {
+    let Some(at) = end else {
         return 0;
     };
     if at != table.len() {

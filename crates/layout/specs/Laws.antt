@@ -1,6 +1,6 @@
 -- Laws of the layout: slots of different files and ISNs do not overlap, and end where the store ends; what `place` finds.
 -- Assumes nothing.
-use Rattle.std.specs.Prelude.{ℕ, zero, suc, ◌+◌, ◌-◌, ◌*◌, ◌≤◌, ◌<◌, ◌≡◌, List, [], ◌∷◌, ◌⊎◌, eqb, ltb, get_or}
+use Rattle.std.specs.Prelude.{ℕ, zero, suc, ◌+◌, ◌-◌, ◌*◌, ◌≤◌, ◌<◌, ◌≡◌, List, [], ◌∷◌, ◌⊎◌, eqb, ltb, get_or, Some, None}
 use Rattle.std.proofs.Common.{le_of_suc-le-suc, add-one, sym, ◌∙◌, inl, inr, get_or-take, ltb-true, ltb-false, eqb-true, eq-eqb}
 use native.Mathlib.Omega.{arith}
 use Rattle.std.proofs.Math.Path.{ap}
@@ -13,7 +13,6 @@ use Rattle.records.specs.Records.{slot_length, file_size}
 use Rattle.layout.specs.Layout.{file_offset, slot_start, store_size, seek, place}
 use Rattle.definition.specs.declared.File.{File}
 use Rattle.definition.specs.declared.Definition.{Definition}
-use Rattle.records.specs.declared.Found.TheVariants.{At, Nowhere}
 use Rattle.records.specs.Laws.{slot_before, slot_within}
 use Rattle.lists.specs.Folds.{total_most, each_index}
 use Rattle.lists.specs.Rows.{row_next, row_before, row_within}
@@ -85,11 +84,11 @@ module _ (d : Definition) (s : DefinitionShape d) where
 abbrev Sought : ℕ → List File → ℕ → ℕ → Type 0
 Sought n fs i j = (i ≤ j) × (j < i + length fs) × ((get_or fs (j - i) beyond).number ≡ n)
 
-seek_found : (n : ℕ) (fs : List File) (i j : ℕ) → seek n fs i ≡ At j → Sought n fs i j
+seek_found : (n : ℕ) (fs : List File) (i j : ℕ) → seek n fs i ≡ Some j → Sought n fs i j
 seek_found n [] i j e = absurd (let z : ◌≡◌ {A = ℕ} 0 1 = cc in omega arith)
 seek_found n (f ∷ fs) i j e = go (outcome (eqb f.number n)) (seek_found n fs (i + 1) j)
   where
-    go : Outcome (eqb f.number n) → (seek n fs (i + 1) ≡ At j → Sought n fs (i + 1) j) → Sought n (f ∷ fs) i j
+    go : Outcome (eqb f.number n) → (seek n fs (i + 1) ≡ Some j → Sought n fs (i + 1) j) → Sought n (f ∷ fs) i j
     go (holds t) later =
         let here : i ≡ j = cc (rw t at e) in
         let z : j - i ≡ 0 = omega arith in
@@ -99,7 +98,7 @@ seek_found n (f ∷ fs) i j e = go (outcome (eqb f.number n)) (seek_found n fs (
         let z : j - i ≡ suc (j - (i + 1)) = omega (arith, r.0) in
         (omega (arith, r.0), omega (arith, r.1), rw z r.2)
 
-seek_none : (n : ℕ) (fs : List File) (i k : ℕ) → seek n fs i ≡ Nowhere → k < length fs → (get_or fs k beyond).number ≡ n → ⊥
+seek_none : (n : ℕ) (fs : List File) (i k : ℕ) → seek n fs i ≡ None → k < length fs → (get_or fs k beyond).number ≡ n → ⊥
 seek_none n [] i k e h q = omega arith
 seek_none n (f ∷ fs) i zero e h q =
     let t = eq-eqb f.number n q in
@@ -107,12 +106,12 @@ seek_none n (f ∷ fs) i zero e h q =
     omega arith
 seek_none n (f ∷ fs) i (suc k) e h q = go (outcome (eqb f.number n)) (λ e'. seek_none n fs (i + 1) k e' (le_of_suc-le-suc h) q)
   where
-    go : Outcome (eqb f.number n) → (seek n fs (i + 1) ≡ Nowhere → ⊥) → ⊥
+    go : Outcome (eqb f.number n) → (seek n fs (i + 1) ≡ None → ⊥) → ⊥
     go (holds t) later = let z : ◌≡◌ {A = ℕ} 0 1 = cc (rw t at e) in omega arith
     go (fails t) later = later (rw t at e)
 
 module _ (d : Definition) (s : DefinitionShape d) where
-  pub place_found : (n i : ℕ) → place d n ≡ At i → (i < file_count d) × ((file_at d i).number ≡ n)
+  pub place_found : (n i : ℕ) → place d n ≡ Some i → (i < file_count d) × ((file_at d i).number ≡ n)
   unfolding place
   place_found n i e =
       let r = seek_found n (files_of d) 0 i e in
@@ -120,7 +119,7 @@ module _ (d : Definition) (s : DefinitionShape d) where
       let z : i - 0 ≡ i = omega arith in
       (m, ap (λ (f : File). f.number) (sym (get_or-take (file_count d) d.files i beyond m)) ∙ rw z at r.2)
 
-  pub place_nowhere : (n i : ℕ) → place d n ≡ Nowhere → i < file_count d → (file_at d i).number ≡ n → ⊥
+  pub place_nowhere : (n i : ℕ) → place d n ≡ None → i < file_count d → (file_at d i).number ≡ n → ⊥
   unfolding place
   place_nowhere n i e h q =
       seek_none n (files_of d) 0 i e (omega (arith, length-take-le (file_count d) d.files (places_files d s)))

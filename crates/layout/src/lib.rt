@@ -7,7 +7,6 @@ ghost use Rattle.records.specs.Records.{file_size};
 ghost use Rattle.layout.specs.Layout.{file_offset, store_size, image_length, place};
 
 use definition::{Definition, File, MAX_FILES};
-use records::Found;
 
 // The bytes that a file takes in the store.
 pub fn file_size(f: File) -> usize
@@ -59,7 +58,7 @@ pub fn image_length(d: Definition) -> usize
 }
 
 // The place of the file with the number.
-pub fn place(d: Definition, number: u8) -> Found
+pub fn place(d: Definition, number: u8) -> Option<usize>
     ensures { result ≡ place d number }
 {
     let n = definition::file_count(d);
@@ -67,9 +66,9 @@ pub fn place(d: Definition, number: u8) -> Found
     while i < n {
         let other = d.files[i].number;
         if other == number {
-            return Found::At(i);
+            return Some(i);
         }
         i += 1;
     }
-    Found::Nowhere
+    None
 }

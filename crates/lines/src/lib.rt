@@ -2,12 +2,11 @@
 #![tactic(auto)]
 
 ghost use Rattle.std.specs.Prelude.{◌≡◌, ◌&&◌, not, ◌∷◌, ◌++◌, ◌+◌, ◌*◌, ◌≤◌, ◌<◌, eqb, length};
-ghost use Rattle.std.proofs.Math.Option.{some};
+ghost use Rattle.std.specs.Prelude.{Some};
 ghost use Rattle.nucleus.specs.Commands.{direct_commands, command_of};
 ghost use Rattle.nucleus.specs.Line.{digit, decimal, hexadecimal, shows, numbers_part, line_of};
 ghost use Rattle.lines.specs.Lines.{Within, Put, Front, put_length, put_front};
 
-use codes::Decoded;
 use nucleus::{Answer, Call, Command};
 
 // As ASCII, to `F`.
@@ -73,7 +72,7 @@ fn put_hexadecimal(bytes: &[u8], at: usize, out: &mut [u8]) -> usize
 
 // The commands that read.
 fn reads(command: Command) -> bool
-    ensures { result ≡ shows (some command) }
+    ensures { result ≡ shows (Some command) }
 {
     match command {
         Command::L1 | Command::L4 | Command::Re => true,
@@ -88,7 +87,7 @@ fn shows(letters: [u8; 2], quantity: usize) -> bool
     if quantity == 0 {
         return false;
     }
-    let Decoded::Known(command) = codes::command_of(letters) else {
+    let Some(command) = codes::command_of(letters) else {
         return false;
     };
     reads(command)

@@ -1,6 +1,5 @@
 -- The table of commands, groups of them that rules speak of, and the options named for each (document 01, 'One call').
-use Rattle.std.specs.Prelude.{ℕ, Bool, ◌&&◌, ◌||◌, List, [], ◌∷◌, ◌++◌, map, eqb, get_or}
-use Rattle.std.proofs.Math.Option.{Option, none, some}
+use Rattle.std.specs.Prelude.{ℕ, Bool, ◌&&◌, ◌||◌, List, [], ◌∷◌, ◌++◌, map, eqb, get_or, Option, Some, None}
 use Rattle.lists.specs.Tests.{cond, eqbs}
 use Rattle.lists.specs.Folds.{any}
 use Rattle.nucleus.specs.declared.Command.{Command}
@@ -58,8 +57,8 @@ code_at place = get_or (map code commands) place (0 ∷ 0 ∷ [])
 
 -- the first of some commands that has the letters
 abbrev pub seek : List ℕ → List Command → Option Command
-seek letters [] = none
-seek letters (c ∷ cs) = cond (eqbs (code c) letters) (some c) (seek letters cs)
+seek letters [] = None
+seek letters (c ∷ cs) = cond (eqbs (code c) letters) (Some c) (seek letters cs)
 
 -- among the commands that a function serves
 unfoldable pub command_of : List Command → List ℕ → Option Command

@@ -1,5 +1,5 @@
 -- What each command does where no row of the response table holds (document 01, 'Hold, change, end'; PE: document 02, No. 12).
-use Rattle.std.specs.Prelude.{ℕ, ◌+◌, ◌-◌, min, false, List, eqb, length, take}
+use Rattle.std.specs.Prelude.{ℕ, ◌+◌, ◌-◌, min, false, List, eqb, length, take, Option, Some, None}
 use Rattle.std.proofs.lemmas.List.Edits.{sets}
 use Rattle.lists.specs.Tests.{cond}
 use Rattle.elements.specs.Elements.{length_needed}
@@ -8,11 +8,7 @@ use Rattle.store.specs.Store.{record_of, put_record, empty}
 use Rattle.committed.specs.Committed.{version_bytes}
 use Rattle.queue.specs.Queue.{append}
 use Rattle.changes.specs.Changes.{first_change_queue, first_change_images}
-use Rattle.records.specs.declared.Found.{Found}
-use Rattle.records.specs.declared.Found.TheVariants.{At, Nowhere}
 use Rattle.entries.specs.declared.Entry.{Entry}
-use Rattle.queue.specs.declared.Lookup.{Lookup}
-use Rattle.queue.specs.declared.Lookup.TheVariants.{Held, Free}
 use Rattle.removal.specs.declared.Removal.TheVariants.{One, Unchanged, All}
 use Rattle.nucleus.specs.Commands.{option_A}
 use Rattle.nucleus.specs.Users.{max_sequence, set_session, closed, counted, started, made_ready, ended}
@@ -47,14 +43,14 @@ module _ (r : Request) where
 
   -- ---- changing
   -- "Only the first change of an entry keeps an image": of the entry that a lookup found
-  abbrev pub imaged_at : Lookup → ℕ → Nucleus → Nucleus
-  imaged_at (Held i e) isn n = record {
+  abbrev pub imaged_at : Option (ℕ × Entry) → ℕ → Nucleus → Nucleus
+  imaged_at (Some (i, e)) isn n = record {
     state = n.state;
     store = n.store;
     queue = first_change_queue n.queue i (record_at r n isn);
     images = first_change_images n.queue n.images (width_of n) i (record_at r n isn) (record_of (file r n) (part r n) isn);
   }
-  imaged_at Free isn n = n
+  imaged_at None isn n = n
 
   -- held, and its image kept
   unfoldable pub imaged : ℕ → Nucleus → Nucleus
@@ -73,9 +69,9 @@ module _ (r : Request) where
   erased isn n = with_part_of (empty (file r n) (part r n) isn) (imaged isn n)
 
   -- "the one that N1 last gave in that file"
-  abbrev pub with_last : Found → ℕ → Nucleus → Nucleus
-  with_last (At i) isn n = with_state (with_last_assigned i isn n.state) n
-  with_last Nowhere isn n = n
+  abbrev pub with_last : Option ℕ → ℕ → Nucleus → Nucleus
+  with_last (Some i) isn n = with_state (with_last_assigned i isn n.state) n
+  with_last None isn n = n
 
   -- ---- ET data
   -- "stores a record buffer of 1 to 64 bytes as the user's ET data; an empty one leaves the old data"

@@ -1,8 +1,7 @@
 -- Document 01, 'Marked for proof': rows of a table that the definitions themselves give, checked by one law. Behind the marked ones stand rows
 -- for 'Errors a good builder makes' and for other rules that a wrong definition was seen to break unnoticed.
 -- Assumes nothing.
-use Rattle.std.specs.Prelude.{ℕ, ◌*◌, ◌≡◌, refl, Bool, true, false, List, [], ◌∷◌, ◌++◌, map, replicate}
-use Rattle.std.proofs.Math.Option.{none, some}
+use Rattle.std.specs.Prelude.{ℕ, ◌*◌, ◌≡◌, refl, Bool, true, false, List, [], ◌∷◌, ◌++◌, map, replicate, Some, None}
 use Prim.Native.String.{String}
 use Rattle.lists.specs.Folds.{Each}
 use Rattle.lists.specs.Numbers.{numbers}
@@ -51,11 +50,11 @@ use Rattle.nucleus.specs.declared.User.{User}
 placed : map place_of direct_commands ≡ numbers 14 1
 placed = refl
 
-decoded : map (λ c. command_of direct_commands (code c)) direct_commands ≡ map some direct_commands
+decoded : map (λ c. command_of direct_commands (code c)) direct_commands ≡ map Some direct_commands
 unfolding command_of
 decoded = refl
 
-thirteen : map (λ c. command_of commands (code c)) direct_commands ≡ map some commands ++ none ∷ []
+thirteen : map (λ c. command_of commands (code c)) direct_commands ≡ map Some commands ++ None ∷ []
 unfolding command_of
 thirteen = refl
 

@@ -1,7 +1,6 @@
 -- The line that `partycall` prints for a call (document 01, 'The house call list': "response, ISN, quantity, sequence, and after a good L1, L4 or RE
 -- that wrote something the bytes in capital hexadecimal without blanks; one blank stands between these parts").
-use Rattle.std.specs.Prelude.{ℕ, zero, suc, ◌+◌, ◌/◌, ◌%◌, Bool, false, not, ◌&&◌, List, [], ◌∷◌, ◌++◌, eqb, ltb, take}
-use Rattle.std.proofs.Math.Option.{Option, none, some}
+use Rattle.std.specs.Prelude.{ℕ, zero, suc, ◌+◌, ◌/◌, ◌%◌, Bool, false, not, ◌&&◌, List, [], ◌∷◌, ◌++◌, eqb, ltb, take, Option, Some, None}
 use Rattle.lists.specs.Tests.{cond}
 use Rattle.nucleus.specs.Commands.{direct_commands, command_of, one_of}
 use Rattle.nucleus.specs.Responses.{number}
@@ -29,8 +28,8 @@ hexadecimal [] = []
 hexadecimal (b ∷ bs) = digit (b / 16) ∷ digit (b % 16) ∷ hexadecimal bs
 
 abbrev pub shows : Option Command → Bool
-shows none = false
-shows (some c) = one_of (L1 ∷ L4 ∷ Re ∷ []) c
+shows None = false
+shows (Some c) = one_of (L1 ∷ L4 ∷ Re ∷ []) c
 
 -- "response, ISN, quantity, sequence"
 abbrev pub numbers_part : Answer → List ℕ

@@ -1,8 +1,7 @@
 -- The response table (document 01, 'Responses, in the order of checking', with the rows of document 02): each row its cause and when it holds. The
 -- response is that of the first row that holds. What a refused call leaves goes by the four lists: nothing is changed by the first; the second comes
 -- after the line that the caller left, the clock and the back-outs, the others after the session that opened. Whoever is answered 20 is in the line then.
-use Rattle.std.specs.Prelude.{ℕ, Bool, false, not, ◌&&◌, ◌||◌, List, [], ◌∷◌, eqb, leb, ltb, length}
-use Rattle.std.proofs.Math.Option.{Option, none, some}
+use Rattle.std.specs.Prelude.{ℕ, Bool, false, not, ◌&&◌, ◌||◌, List, [], ◌∷◌, eqb, leb, ltb, length, Option, Some, None}
 use Rattle.lists.specs.Tests.{cond, within}
 use Rattle.lists.specs.Folds.{any}
 use Rattle.lists.specs.Numbers.{numbers}
@@ -37,8 +36,8 @@ row cause holds = record { cause = cause; holds = holds }
 
 -- the cause of the first row that holds, if any
 abbrev pub first_cause : List Row → Option Response
-first_cause [] = none
-first_cause (r ∷ rs) = cond r.holds (some r.cause) (first_cause rs)
+first_cause [] = None
+first_cause (r ∷ rs) = cond r.holds (Some r.cause) (first_cause rs)
 
 -- ---- before the clock
 -- "Where the kept table is invalid these sizes mean nothing, and 12 is given before 11"
@@ -51,8 +50,8 @@ rows_usable capacity n =
 
 -- "unknown command, or option not named for it"
 abbrev pub understood : Option Command → ℕ → Bool
-understood none option = false
-understood (some c) option = has_option c option
+understood None option = false
+understood (Some c) option = has_option c option
 
 -- a command that the function does not serve is unknown there
 unfoldable pub rows_understood : List Command → Call → List Row

@@ -1,14 +1,11 @@
 -- One call, and set-up (document 01, 'One call' and 'Files and their definition').
-use Rattle.std.specs.Prelude.{ℕ, false, ◌&&◌, List, [], ◌∷◌, eqb, length}
-use Rattle.std.proofs.Math.Option.{Option, none, some}
+use Rattle.std.specs.Prelude.{ℕ, false, ◌&&◌, List, [], ◌∷◌, eqb, length, Option, Some, None}
 use Rattle.lists.specs.Tests.{cond}
 use Rattle.definition.specs.Table.{file_at, file_count, no_definition}
 use Rattle.reading.specs.Grammar.{read_table}
 use Rattle.lists.specs.Numbers.{numbers}
 use Rattle.store.specs.Store.{fresh, file_part, with_part}
 use Rattle.definition.specs.declared.Definition.{Definition}
-use Rattle.reading.specs.declared.End.{End}
-use Rattle.reading.specs.declared.End.TheVariants.{At, Broken}
 use Rattle.nucleus.specs.Commands.{direct_commands, command_of, one_of, letting_go}
 use Rattle.nucleus.specs.Users.{opened, with_overdue}
 use Rattle.nucleus.specs.Responses.{number, waiting_number, refused}
@@ -30,8 +27,8 @@ pub data Admission : Type 0 where
   let_in : Command → Nucleus → Admission
 
 abbrev pub unless_refused : Option Response → Nucleus → Admission → Admission
-unless_refused (some cause) n next = turned_away cause n
-unless_refused none n next = next
+unless_refused (Some cause) n next = turned_away cause n
+unless_refused None n next = next
 
 -- "A call of a marked user does nothing further, clears the mark and answers 9"; OP or CL, "with a transaction open, backs it out, answers 9 and
 -- does nothing more"
@@ -48,8 +45,8 @@ admitted_user c call n = unless_refused (first_cause (rows_after_clock c call n)
 
 -- a command that is known, since no row before the clock holds
 abbrev pub admitted_command : Option Command → Call → Nucleus → Admission
-admitted_command none call n = turned_away CommandUnknown n
-admitted_command (some c) call n = admitted_user c call (clocked call.clock (left_by c call n))
+admitted_command None call n = turned_away CommandUnknown n
+admitted_command (Some c) call n = admitted_user c call (clocked call.clock (left_by c call n))
 
 -- 12, 11, 12; 22, 72; the line that is left; the clock; 9; the session; 211, 29, 212
 unfoldable pub admitted : List Command → ℕ → Call → Nucleus → Admission
@@ -63,8 +60,8 @@ refusal buffer n cause = resulting (refused cause) n buffer
 
 -- refused with a cause, where there is one; else what follows
 abbrev pub unless : Option Response → (Response → Result) → Result → Result
-unless (some cause) refuse next = refuse cause
-unless none refuse next = next
+unless (Some cause) refuse next = refuse cause
+unless None refuse next = next
 
 -- the rows of 17 and after, and the command's effect
 unfoldable pub perform : Request → Nucleus → Result
@@ -110,9 +107,9 @@ module _ (capacity : ℕ) (store queue images : List ℕ) where
       })
 
   -- "Kind 0, the end, no body, nothing after it"
-  abbrev pub set_up_at : End → ℕ → Definition → SetUp
-  set_up_at Broken size d = not_set_up DefinitionInvalid
-  set_up_at (At end) size d = cond (eqb end size) (set_up_as d) (not_set_up DefinitionInvalid)
+  abbrev pub set_up_at : Option ℕ → ℕ → Definition → SetUp
+  set_up_at None size d = not_set_up DefinitionInvalid
+  set_up_at (Some end) size d = cond (eqb end size) (set_up_as d) (not_set_up DefinitionInvalid)
 
   unfoldable pub set_up : List ℕ → SetUp
   set_up table = set_up_at (read_table table).end (length table) (read_table table).definition

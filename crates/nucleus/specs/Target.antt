@@ -1,5 +1,6 @@
 -- What a call is about: its file, that file's part of the store, the ISN, who holds it, and the record that it makes.
-use Rattle.std.specs.Prelude.{ℕ, ◌+◌, Bool, true, false, not, ◌&&◌, List, [], ◌∷◌, ◌++◌, eqb, get_or}
+use Rattle.std.specs.Prelude.{ℕ, ◌+◌, Bool, true, false, not, ◌&&◌, List, [], ◌∷◌, ◌++◌, eqb, get_or, Option, Some, None}
+use Rattle.entries.specs.declared.Entry.{Entry}
 use Rattle.lists.specs.Tests.{cond}
 use Rattle.lists.specs.Folds.{any}
 use Rattle.lists.specs.Numbers.{from_to}
@@ -12,12 +13,6 @@ use Rattle.entries.specs.Entries.{is_of}
 use Rattle.queue.specs.Queue.{holder}
 use Rattle.definition.specs.declared.Definition.{Definition}
 use Rattle.definition.specs.declared.File.{File}
-use Rattle.records.specs.declared.Found.{Found}
-use Rattle.records.specs.declared.Found.TheVariants as found_at
-use Rattle.search.specs.declared.Occupied.{Occupied}
-use Rattle.search.specs.declared.Occupied.TheVariants.{At, Nowhere}
-use Rattle.queue.specs.declared.Lookup.{Lookup}
-use Rattle.queue.specs.declared.Lookup.TheVariants.{Held, Free}
 use Rattle.committed.specs.Committed.{committed_version, version_there}
 use Rattle.committed.specs.declared.Version.{Version}
 use Rattle.committed.specs.declared.Version.TheVariants.{Stored}
@@ -27,44 +22,44 @@ use Rattle.nucleus.specs.declared.Command.{Command}
 use Rattle.nucleus.specs.declared.Command.TheVariants.{A1, N1}
 
 -- ---- a file that was sought by its number
-abbrev pub is_file : Found → Bool
-is_file (found_at.At i) = true
-is_file found_at.Nowhere = false
+abbrev pub is_file : Option ℕ → Bool
+is_file (Some i) = true
+is_file None = false
 
-abbrev pub part_in : Definition → Found → List ℕ → List ℕ
-part_in d (found_at.At i) store = file_part d i store
-part_in d found_at.Nowhere store = []
+abbrev pub part_in : Definition → Option ℕ → List ℕ → List ℕ
+part_in d (Some i) store = file_part d i store
+part_in d None store = []
 
-abbrev pub store_with : Definition → Found → List ℕ → List ℕ → List ℕ
-store_with d (found_at.At i) store part = with_part d i store part
-store_with d found_at.Nowhere store part = store
+abbrev pub store_with : Definition → Option ℕ → List ℕ → List ℕ → List ℕ
+store_with d (Some i) store part = with_part d i store part
+store_with d None store part = store
 
 -- the ISN that N1 last gave there
-abbrev pub assigned_in : List ℕ → Found → ℕ
-assigned_in isns (found_at.At i) = get_or isns i 0
-assigned_in isns found_at.Nowhere = 0
+abbrev pub assigned_in : List ℕ → Option ℕ → ℕ
+assigned_in isns (Some i) = get_or isns i 0
+assigned_in isns None = 0
 
 -- ---- an ISN that was sought
-abbrev pub is_isn : Occupied → Bool
-is_isn (At isn) = true
-is_isn Nowhere = false
+abbrev pub is_isn : Option ℕ → Bool
+is_isn (Some isn) = true
+is_isn None = false
 
-abbrev pub isn_in : Occupied → ℕ
-isn_in (At isn) = isn
-isn_in Nowhere = 0
+abbrev pub isn_in : Option ℕ → ℕ
+isn_in (Some isn) = isn
+isn_in None = 0
 
 -- ---- who holds
-abbrev pub is_holder : ℕ → Lookup → Bool
-is_holder user (Held i e) = eqb e.user user
-is_holder user Free = false
+abbrev pub is_holder : ℕ → Option (ℕ × Entry) → Bool
+is_holder user (Some (i, e)) = eqb e.user user
+is_holder user None = false
 
-abbrev pub other_holds : ℕ → Lookup → Bool
-other_holds user (Held i e) = not (eqb e.user user)
-other_holds user Free = false
+abbrev pub other_holds : ℕ → Option (ℕ × Entry) → Bool
+other_holds user (Some (i, e)) = not (eqb e.user user)
+other_holds user None = false
 
-abbrev pub is_changed : Lookup → Bool
-is_changed (Held i e) = e.changed
-is_changed Free = false
+abbrev pub is_changed : Option (ℕ × Entry) → Bool
+is_changed (Some (i, e)) = e.changed
+is_changed None = false
 
 -- ---- of a call
 module _ (r : Request) (n : Nucleus) where
@@ -73,7 +68,7 @@ module _ (r : Request) (n : Nucleus) where
   command_in cs = one_of cs r.command
 
   -- the place of its file in the table
-  abbrev pub file_place : Found
+  abbrev pub file_place : Option ℕ
   file_place = place n.state.definition r.call.file
 
   abbrev pub file : File
@@ -85,7 +80,7 @@ module _ (r : Request) (n : Nucleus) where
   abbrev pub record_at : ℕ → Bool
   record_at isn = has_record file part isn
 
-  abbrev pub holder_of : ℕ → Lookup
+  abbrev pub holder_of : ℕ → Option (ℕ × Entry)
   holder_of isn = holder (entries_of n) r.call.file isn
 
   -- N1: "the first ISN after the one that N1 last gave in that file (0 when fresh), going round once, that has no record and no holder"
@@ -95,7 +90,7 @@ module _ (r : Request) (n : Nucleus) where
   abbrev pub last_given : ℕ
   last_given = assigned_in n.state.last_assigned file_place
 
-  abbrev pub free_isn : Occupied
+  abbrev pub free_isn : Option ℕ
   free_isn = first_of is_free (from_to (last_given + 1) file.max_isn ++ from_to 1 last_given)
 
   -- option `I` of L1 and L4: "the lowest ISN at or above the given one that has a record"
@@ -103,8 +98,8 @@ module _ (r : Request) (n : Nucleus) where
   seeks = command_in reading_values && eqb r.call.option option_I
 
   -- the ISN that the command is about: N1's, the one that option `I` finds, or the given one
-  unfoldable pub target : Occupied
-  target = cond (command_in (N1 ∷ [])) free_isn (cond seeks (lowest file part r.call.isn) (At r.call.isn))
+  unfoldable pub target : Option ℕ
+  target = cond (command_in (N1 ∷ [])) free_isn (cond seeks (lowest file part r.call.isn) (Some r.call.isn))
 
   abbrev pub target_isn : ℕ
   target_isn = isn_in target

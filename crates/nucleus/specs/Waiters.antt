@@ -1,5 +1,5 @@
 -- The line of those who wait for a record that another holds, and the hand-over (document 02, No. 1, 'Holding without trying again').
-use Rattle.std.specs.Prelude.{ℕ, ◌+◌, Bool, false, not, ◌&&◌, List, [], ◌∷◌, eqb, ltb, length, take}
+use Rattle.std.specs.Prelude.{ℕ, ◌+◌, Bool, false, not, ◌&&◌, List, [], ◌∷◌, eqb, ltb, length, take, Option, Some, None}
 use Rattle.lists.specs.Tests.{cond}
 use Rattle.lists.specs.Folds.{any}
 use Rattle.lists.specs.Sift.{sift}
@@ -8,8 +8,6 @@ use Rattle.store.specs.Store.{has_record}
 use Rattle.entries.specs.Entries.{entries}
 use Rattle.entries.specs.declared.Entry.{Entry}
 use Rattle.queue.specs.Queue.{holder, append}
-use Rattle.queue.specs.declared.Lookup.{Lookup}
-use Rattle.queue.specs.declared.Lookup.TheVariants.{Held, Free}
 use Rattle.removal.specs.Removal.{goes, remove_queue, remove_count}
 use Rattle.removal.specs.declared.Removal.{Removal}
 use Rattle.removal.specs.declared.Removal.TheVariants.{One, Unchanged, All}
@@ -36,7 +34,7 @@ is_user u e = eqb e.user u
 abbrev pub in_line : WaitQueue → ℕ → Bool
 in_line l u = any (is_user u) (waiters_in l)
 
-abbrev pub first_in_line : WaitQueue → ℕ → ℕ → Lookup
+abbrev pub first_in_line : WaitQueue → ℕ → ℕ → Option (ℕ × Entry)
 first_in_line l file isn = holder (waiters_in l) file isn
 
 -- the place of who waits by a call
@@ -106,9 +104,9 @@ abbrev pub taking : ℕ → ℕ → ℕ → Nucleus → Nucleus
 taking u file isn n = change_user u (started n.state.clock) (with_hold u file isn (left u n))
 
 -- the queue has a place for it, since one was let go
-abbrev pub handed_to : Lookup → ℕ → ℕ → Nucleus → Nucleus
-handed_to (Held i w) file isn n = cond (ltb n.state.count (length n.queue)) (taking w.user file isn n) n
-handed_to Free file isn n = n
+abbrev pub handed_to : Option (ℕ × Entry) → ℕ → ℕ → Nucleus → Nucleus
+handed_to (Some (i, w)) file isn n = cond (ltb n.state.count (length n.queue)) (taking w.user file isn n) n
+handed_to None file isn n = n
 
 -- "the first in line gets the hold"
 unfoldable pub handed_on : ℕ → ℕ → Nucleus → Nucleus

@@ -1,10 +1,7 @@
 -- What `partycall` writes for what it reads (document 01, 'The house call list'), whole.
-use Rattle.std.specs.Prelude.{ℕ, zero, suc, ◌*◌, List, [], ◌∷◌, ◌++◌, eqb, length, take, drop, replicate}
-use Rattle.std.proofs.Math.Option.{Option, none, some}
+use Rattle.std.specs.Prelude.{ℕ, zero, suc, ◌*◌, List, [], ◌∷◌, ◌++◌, eqb, length, take, drop, replicate, Option, Some, None}
 use Rattle.lists.specs.Tests.{cond}
 use Rattle.reading.specs.Grammar.{read_table}
-use Rattle.reading.specs.declared.End.{End}
-use Rattle.reading.specs.declared.End.TheVariants.{At, Broken}
 use Rattle.nucleus.specs.Responses.{number}
 use Rattle.nucleus.specs.Nucleus.{Nucleus, Given, Result}
 use Rattle.nucleus.specs.Step.{step, SetUp, set_up}
@@ -36,8 +33,8 @@ abbrev pub printed : Given → (Nucleus → List ℕ) → Result → List ℕ
 printed g later r = line g.call r ++ newline ∷ later r.nucleus
 
 abbrev pub answered : Option Given → (Nucleus → List ℕ) → Nucleus → List ℕ
-answered none later n = bad
-answered (some g) later n = printed g later (step capacity g.call g.format g.buffer n)
+answered None later n = bad
+answered (Some g) later n = printed g later (step capacity g.call g.format g.buffer n)
 
 -- calls to the end of the bytes; `fuel` bounds their number: the count of the bytes is enough
 unfoldable pub lines : ℕ → List ℕ → Nucleus → List ℕ
@@ -50,9 +47,9 @@ abbrev pub begun : SetUp → List ℕ → List ℕ
 begun s calls = cond (eqb (number s.response) 0) (lines (length calls) calls s.nucleus) bad
 
 -- "a definition table, which ends with its kind 0, then calls"
-abbrev pub output_at : End → List ℕ → List ℕ
-output_at Broken input = bad
-output_at (At end) input =
+abbrev pub output_at : Option ℕ → List ℕ → List ℕ
+output_at None input = bad
+output_at (Some end) input =
     begun (set_up capacity (replicate store_length 0) (replicate capacity 0) (replicate images_length 0) (take end input)) (drop end input)
 
 unfoldable pub output : List ℕ → List ℕ

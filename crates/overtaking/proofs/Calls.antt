@@ -1,10 +1,9 @@
 -- All stages of a call, and of a list of calls.
 -- Assumes nothing.
-use Rattle.std.specs.Prelude.{ℕ, ◌≡◌, Bool, true, false}
+use Rattle.std.specs.Prelude.{ℕ, ◌≡◌, Bool, true, false, Option, Some, None}
 use Rattle.std.proofs.Common.{arith}
 use Rattle.std.proofs.Math.Path.{refl}
 use mathlib.Core.List.{List, [], ◌∷◌, ◌++◌}
-use Rattle.std.proofs.Math.Option.{Option, none, some}
 use Rattle.lists.specs.Tests.{cond}
 use Rattle.nucleus.specs.Commands.{direct_commands, command_of}
 use Rattle.nucleus.specs.Nucleus.{Nucleus, request}
@@ -46,7 +45,7 @@ module _ (u file isn : ℕ) where
           ready = record { room = p.room; in_line = after };
         }
 
-    passed_command : Passed u file isn capacity n (moments_command (some c) call n) (left_in (admitted_command (some c) call n))
+    passed_command : Passed u file isn capacity n (moments_command (Some c) call n) (left_in (admitted_command (Some c) call n))
     passed_command =
         let m = left_by c call n in
         let clock = passed_clocked u file isn capacity call.clock m in
@@ -67,10 +66,10 @@ module _ (u file isn : ℕ) where
     Served ms x = Stage u file isn 0 n (ms ++ moments_served x capacity call format buffer) (serve x capacity call format buffer).nucleus
 
     served_command : Ready u file isn capacity n → (x : Option Command) → Served (moments_command x call n) (admitted_command x call n)
-    served_command p none = nothing u file isn n
-    served_command p (some c) =
+    served_command p None = nothing u file isn n
+    served_command p (Some c) =
         let q = passed_command capacity c call n p in
-        followed u file isn q.stage (stage_served capacity call format buffer (admitted_command (some c) call n) q.ready)
+        followed u file isn q.stage (stage_served capacity call format buffer (admitted_command (Some c) call n) q.ready)
 
     pub stage_call : Stage u file isn 0 n (moments capacity call format buffer n) (step capacity call format buffer n).nucleus
     unfolding moments moments_admitted step admitted
@@ -78,14 +77,14 @@ module _ (u file isn : ℕ) where
       where
         understood : Ready u file isn capacity n → (x : Option Response) → let c = command_of direct_commands call.command in
             Served (moments_unless x (moments_command c call n)) (unless_refused x n (admitted_command c call n))
-        understood p (some cause) = nothing u file isn n
-        understood p none = served_command p (command_of direct_commands call.command)
+        understood p (Some cause) = nothing u file isn n
+        understood p None = served_command p (command_of direct_commands call.command)
 
         usable : (x : Option Response) → first_cause (rows_usable capacity n) ≡ x
             → let c = command_of direct_commands call.command in let y = first_cause (rows_understood direct_commands call) in
             Served (moments_unless x (moments_unless y (moments_command c call n))) (unless_refused x n (unless_refused y n (admitted_command c call n)))
-        usable (some cause) e = nothing u file isn n
-        usable none e = understood (ready capacity n e u file isn places) (first_cause (rows_understood direct_commands call))
+        usable (Some cause) e = nothing u file isn n
+        usable None e = understood (ready capacity n e u file isn places) (first_cause (rows_understood direct_commands call))
 
   -- ---- a list of calls
   pub stage_calls : (calls : List Called) (n : Nucleus) → HasPlaces n → Stage u file isn 0 n (moments_of calls n) (run calls n)

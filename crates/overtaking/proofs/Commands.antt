@@ -2,7 +2,7 @@
 -- Assumes nothing.
 use Prim.Native.Nat.{ℕ, zero, suc, ◌+◌, ◌≤◌, ◌<◌}
 use native.Mathlib.Omega.{arith}
-use Rattle.std.specs.Prelude.{◌≡◌, Bool, eqb, ltb, get_or}
+use Rattle.std.specs.Prelude.{◌≡◌, Bool, eqb, ltb, get_or, Option, Some, None}
 use Rattle.std.proofs.Math.Path.{refl}
 use Rattle.std.proofs.Common.{ap, ◌∙◌}
 use Rattle.std.proofs.Math.Bool.{true, false}
@@ -12,15 +12,11 @@ use Rattle.std.proofs.Math.Seq.{set_out, take_all}
 use borrow.Author.Tests.{ltb-true, ltb-false}
 use Rattle.lists.specs.Tests.{cond, Outcome, holds, fails, outcome}
 use Rattle.lists.specs.Folds.{total}
-use Rattle.records.specs.declared.Found.{Found}
-use Rattle.records.specs.declared.Found.TheVariants.{At, Nowhere}
 use Rattle.entries.specs.Entries.{bit, pack_of, unpack_of, entries, is_of}
 use Rattle.entries.specs.Laws.{no_entry, entries_are, entries_last, entries_kept, length_entries}
 use Rattle.entries.specs.declared.Entry.{Entry}
 use Rattle.queue.specs.Queue.{append}
 use Rattle.queue.specs.Laws.{held_found}
-use Rattle.queue.specs.declared.Lookup.{Lookup}
-use Rattle.queue.specs.declared.Lookup.TheVariants.{Held, Free}
 use Rattle.changes.specs.Changes.{as_changed, settled, change, first_change_queue}
 use Rattle.changes.specs.Laws.{entries_change}
 use Rattle.removal.specs.declared.Removal.TheVariants.{One, Unchanged}
@@ -52,9 +48,9 @@ module _ (r : Request) (isn : ℕ) (n : Nucleus) where
   unfolding imaged
   line_imaged = go (holder_of r (held r isn n) isn) ∙ line_held
     where
-      go : (l : Lookup) → line (imaged_at r l isn (held r isn n)) ≡ line (held r isn n)
-      go (Held i e) = refl
-      go Free = refl
+      go : (l : Option (ℕ × Entry)) → line (imaged_at r l isn (held r isn n)) ≡ line (held r isn n)
+      go (Some (i, e)) = refl
+      go None = refl
 
   line_written : line (written r isn n) ≡ line n
   unfolding written
@@ -63,9 +59,9 @@ module _ (r : Request) (isn : ℕ) (n : Nucleus) where
   line_added : line (with_last r (file_place r n) isn (written r isn n)) ≡ line n
   line_added = go (file_place r n) ∙ line_written
     where
-      go : (x : Found) → line (with_last r x isn (written r isn n)) ≡ line (written r isn n)
-      go (At i) = refl
-      go Nowhere = refl
+      go : (x : Option ℕ) → line (with_last r x isn (written r isn n)) ≡ line (written r isn n)
+      go (Some i) = refl
+      go None = refl
 
   line_erased : line (erased r isn n) ≡ line n
   unfolding erased
@@ -150,13 +146,13 @@ module _ (file number : ℕ) where
     unfolding imaged
     kept_imaged = go (holder_of r (held r isn n) isn) refl
       where
-        go : (l : Lookup) → holder_of r (held r isn n) isn ≡ l → Kept (imaged_at r l isn (held r isn n))
-        go (Held i e) found =
+        go : (l : Option (ℕ × Entry)) → holder_of r (held r isn n) isn ≡ l → Kept (imaged_at r l isn (held r isn n))
+        go (Some (i, e)) found =
             let m = held r isn n in
             let inside = (held_found r.call.file isn (entries_of m) i e found).inside in
             let at : i < m.state.count = omega (arith, inside, length_entries m.queue m.state.count) in
             rw (here_changed m.queue m.state.count i (record_at r m isn) at) kept_held
-        go Free found = kept_held
+        go None found = kept_held
 
     pub kept_written : Kept (written r isn n)
     unfolding written
@@ -169,6 +165,6 @@ module _ (file number : ℕ) where
     pub kept_added : Kept (with_last r (file_place r n) isn (written r isn n))
     kept_added = go (file_place r n)
       where
-        go : (x : Found) → Kept (with_last r x isn (written r isn n))
-        go (At i) = kept_written
-        go Nowhere = kept_written
+        go : (x : Option ℕ) → Kept (with_last r x isn (written r isn n))
+        go (Some i) = kept_written
+        go None = kept_written

@@ -1,6 +1,6 @@
 -- A record's line when somebody leaves it, joins it, or is its first; and the line of the nucleus, which the records' lines are parts of.
 -- Assumes nothing.
-use Rattle.std.specs.Prelude.{ℕ, ◌+◌, ◌*◌, ◌≤◌, ◌<◌, ◌≡◌, refl, Bool, true, false, not, ◌&&◌, eqb, ltb, length, take, get_or, set}
+use Rattle.std.specs.Prelude.{ℕ, ◌+◌, ◌*◌, ◌≤◌, ◌<◌, ◌≡◌, refl, Bool, true, false, not, ◌&&◌, eqb, ltb, length, take, get_or, set, Option, Some, None}
 use Rattle.std.proofs.Common.{arith, sym, ap, ◌∙◌, length-set, eqb-true, le-leb, ltb-true}
 use mathlib.Core.List.{List, [], ◌∷◌, ◌++◌, map, append-nil}
 use Rattle.lists.specs.Tests.{cond, not_both, Outcome, holds, fails, outcome, and-false, and_right, eqb_sym}
@@ -11,8 +11,6 @@ use Rattle.entries.specs.Laws.{Shape, unpack_shape, entries_last, entries_kept}
 use Rattle.entries.specs.declared.Entry.{Entry}
 use Rattle.queue.specs.Queue.{seek, holder, append}
 use Rattle.queue.specs.Laws.{length_append_entry}
-use Rattle.queue.specs.declared.Lookup.{Lookup}
-use Rattle.queue.specs.declared.Lookup.TheVariants.{Held, Free}
 use Rattle.removal.specs.Removal.{stays, fits}
 use Rattle.removal.specs.Laws.{entries_remove, remove_count_most, length_remove_queue}
 use Rattle.removal.specs.declared.Removal.TheVariants.{All}
@@ -60,16 +58,16 @@ before_joined u (w ∷ l) more h = go (outcome (is_user u w)) (before_joined u l
 
 -- ---- the first
 -- a lookup as the first of those that it may find
-abbrev pub IsFirst : Lookup → List Entry → Type 0
-IsFirst (Held i w) l = (rest : List Entry) × (l ≡ w ∷ rest)
-IsFirst Free l = l ≡ []
+abbrev pub IsFirst : Option (ℕ × Entry) → List Entry → Type 0
+IsFirst (Some (i, w)) l = (rest : List Entry) × (l ≡ w ∷ rest)
+IsFirst None l = l ≡ []
 
 seek_first : (file isn : ℕ) (es : List Entry) (from : ℕ) → IsFirst (seek file isn es from) (sift (is_of file isn) es)
 seek_first file isn [] from = refl
 seek_first file isn (e ∷ es) from = go (is_of file isn e) (seek_first file isn es (from + 1))
   where
     go : (b : Bool) → IsFirst (seek file isn es (from + 1)) (sift (is_of file isn) es)
-        → IsFirst (cond b (Held from e) (seek file isn es (from + 1))) (keep b e (sift (is_of file isn) es))
+        → IsFirst (cond b (Some (from, e)) (seek file isn es (from + 1))) (keep b e (sift (is_of file isn) es))
     go true i = (sift (is_of file isn) es, refl)
     go false i = i
 

@@ -1,10 +1,9 @@
 -- The stages before a command: the clock's pass, and what the rows of 9, 211, 29 and 212 leave.
 -- Assumes nothing.
-use Rattle.std.specs.Prelude.{ℕ, zero, suc, ◌+◌, max, ◌≡◌, Bool, true, false, length}
+use Rattle.std.specs.Prelude.{ℕ, zero, suc, ◌+◌, max, ◌≡◌, Bool, true, false, length, Option, Some, None}
 use Rattle.std.proofs.Common.{arith}
 use Rattle.std.proofs.Math.Path.{refl}
 use mathlib.Core.List.{List, [], ◌∷◌, ◌++◌}
-use Rattle.std.proofs.Math.Option.{Option, none, some}
 use Rattle.lists.specs.Tests.{cond, Outcome, holds, fails, outcome}
 use Rattle.entries.specs.Entries.{bit, is_of}
 use Rattle.entries.specs.declared.Entry.{Entry}
@@ -94,8 +93,8 @@ module _ (u file isn capacity : ℕ) where
         m = change_user call.user opened n
 
         go : (x : Option Response) → let to = left_in (unless_refused x m (let_in c m)) in Passed n (moment other to ∷ []) to
-        go (some cause) = passed_state m.state n refl refl refl p
-        go none = passed_state m.state n refl refl refl p
+        go (Some cause) = passed_state m.state n refl refl refl p
+        go None = passed_state m.state n refl refl refl p
 
     pub passed_user : Passed n (moments_user c call n) (left_in (admitted_user c call n))
     unfolding moments_user admitted_user

@@ -1,7 +1,7 @@
 -- What a call that is served has from its first moment to its last: room in the queue for what it hands on, room in the line, and a user who
 -- waits for a record waits for no other. And what goes when entries are removed, and what comes when a hold is handed on.
 -- Assumes nothing.
-use Rattle.std.specs.Prelude.{ℕ, suc, ◌+◌, ◌*◌, ◌≤◌, ◌<◌, ◌≡◌, refl, Bool, not, ◌||◌, List, [], ◌∷◌, ◌++◌, eqb, ltb, length}
+use Rattle.std.specs.Prelude.{ℕ, suc, ◌+◌, ◌*◌, ◌≤◌, ◌<◌, ◌≡◌, refl, Bool, not, ◌||◌, List, [], ◌∷◌, ◌++◌, eqb, ltb, length, Option, Some, None}
 use Rattle.std.proofs.Common.{mul-le-mul_right, arith, ◌∙◌, take_all, eqb-true, le-leb}
 use Rattle.std.proofs.Math.Bool.{true, false}
 use Rattle.lists.specs.Tests.{cond, Outcome, holds, fails, outcome, and_left, and_right}
@@ -12,8 +12,6 @@ use Rattle.entries.specs.Laws.{Shape, length_entries}
 use Rattle.entries.specs.declared.Entry.{Entry}
 use Rattle.queue.specs.Queue.{append}
 use Rattle.queue.specs.Laws.{entries_append, length_append_entry}
-use Rattle.queue.specs.declared.Lookup.{Lookup}
-use Rattle.queue.specs.declared.Lookup.TheVariants.{Held, Free}
 use Rattle.removal.specs.Closing.{set_count}
 use Rattle.removal.specs.Removal.{goes, stays, staying, fits, remove_queue, remove_images, remove_count}
 use Rattle.removal.specs.Laws.{entries_remove, length_remove_queue, length_remove_images}
@@ -120,9 +118,9 @@ module _ (capacity more : ℕ) (file isn : ℕ) (n : Nucleus) (room : RoomIn cap
       }
       given v false = kept
 
-      go : (l : Lookup) → RoomIn capacity more (handed_to l file isn n)
-      go (Held i w) = given w.user (ltb n.state.count (length n.queue))
-      go Free = kept
+      go : (l : Option (ℕ × Entry)) → RoomIn capacity more (handed_to l file isn n)
+      go (Some (i, w)) = given w.user (ltb n.state.count (length n.queue))
+      go None = kept
 
   pub place_free : n.state.count < length n.queue
   place_free = omega (arith, room.few, room.queue_long)
@@ -172,9 +170,9 @@ module _ (u file isn : ℕ) where
       given v true = in_line_left v n.state.wait_queue a
       given v false = a
 
-      go : (l : Lookup) → InLine (handed_to l f i n).state.wait_queue
-      go (Held k w) = given w.user (ltb n.state.count (length n.queue))
-      go Free = a
+      go : (l : Option (ℕ × Entry)) → InLine (handed_to l f i n).state.wait_queue
+      go (Some (k, w)) = given w.user (ltb n.state.count (length n.queue))
+      go None = a
 
   pub in_line_handed : (es : List Entry) (n : Nucleus) → InLine n.state.wait_queue → InLine (handed es n).state.wait_queue
   in_line_handed [] n a = a

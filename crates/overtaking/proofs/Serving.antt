@@ -1,10 +1,9 @@
 -- The last stage of a call that is let in: its command, and the line then.
 -- Assumes nothing.
-use Rattle.std.specs.Prelude.{ℕ, ◌+◌, ◌≡◌, Bool, not, ◌&&◌, List, [], ◌∷◌, eqb, length}
+use Rattle.std.specs.Prelude.{ℕ, ◌+◌, ◌≡◌, Bool, not, ◌&&◌, List, [], ◌∷◌, eqb, length, Option, Some, None}
 use Rattle.std.proofs.Common.{arith, ap}
 use Rattle.std.proofs.Math.Path.{refl}
 use Rattle.std.proofs.Math.Bool.{true, false}
-use Rattle.std.proofs.Math.Option.{Option, none, some}
 use Rattle.std.proofs.lemmas.Bool.{not-true}
 use Rattle.lists.specs.Tests.{cond, Outcome, holds, fails, outcome, and_left, and_right}
 use Rattle.lists.specs.Folds.{all}
@@ -32,18 +31,18 @@ use Rattle.overtaking.proofs.Stages.{Fair, Stage, of_record, fair_quiet, quiet, 
 use Rattle.overtaking.proofs.Commands.{line_effect, kept_held, kept_written, kept_erased, kept_added}
 
 -- ---- a refusal is not numbered 0
-first_such : (p : Response → Bool) (rows : List Row) (cause : Response) → all (λ (r : Row). p r.cause) rows ≡ true → first_cause rows ≡ some cause → p cause ≡ true
-first_such p [] cause h e = absurd (let z : ◌≡◌ {A = ℕ} 0 1 = ap (λ (x : Option Response). elim x [ none ↦ 0 | some c ↦ 1 ]) e in omega arith)
+first_such : (p : Response → Bool) (rows : List Row) (cause : Response) → all (λ (r : Row). p r.cause) rows ≡ true → first_cause rows ≡ Some cause → p cause ≡ true
+first_such p [] cause h e = absurd (let z : ◌≡◌ {A = ℕ} 0 1 = ap (λ (x : Option Response). elim x [ None ↦ 0 | Some c ↦ 1 ]) e in omega arith)
 first_such p (r ∷ rs) cause h e = go (outcome r.holds) (first_such p rs cause (and_right (p r.cause) (all (λ (r : Row). p r.cause) rs) h))
   where
-    go : Outcome r.holds → (first_cause rs ≡ some cause → p cause ≡ true) → p cause ≡ true
+    go : Outcome r.holds → (first_cause rs ≡ Some cause → p cause ≡ true) → p cause ≡ true
     go (holds t) later =
-        let here : some r.cause ≡ some cause = rw t at e in
+        let here : Some r.cause ≡ Some cause = rw t at e in
         let same : r.cause ≡ cause = cc in
         rw (← same) (and_left (p r.cause) (all (λ (r : Row). p r.cause) rs) h)
     go (fails t) later = later (rw t at e)
 
-not_good : (r : Request) (n : Nucleus) (cause : Response) → first_cause (rows_last r n) ≡ some cause → eqb (number cause) 0 ≡ false
+not_good : (r : Request) (n : Nucleus) (cause : Response) → first_cause (rows_last r n) ≡ Some cause → eqb (number cause) 0 ≡ false
 not_good r n cause e = not-true (eqb (number cause) 0) (first_such (λ c. not (eqb (number c) 0)) (rows_last r n) cause refl e)
 
 module _ (u file isn : ℕ) (capacity : ℕ) (r : Request) (n : Nucleus) (room : RoomIn capacity 0 n) (a : InLine u file isn n.state.wait_queue) where
@@ -123,5 +122,5 @@ module _ (u file isn : ℕ) (capacity : ℕ) (r : Request) (n : Nucleus) (room :
       go : (x : Option Response) → first_cause (rows_last r n) ≡ x
           → let y = unless x (refusal r.buffer n) (effect r n) in let response = number y.answer.response in
           Stage u file isn 0 n (moment other y.nucleus ∷ moments_lined r.command r.call n response y.nucleus) (lined r n response y.nucleus)
-      go (some cause) e = stage_refused r.command (number cause) (not_good r n cause e)
-      go none e = stage_effect (target_isn r n) r.command
+      go (Some cause) e = stage_refused r.command (number cause) (not_good r n cause e)
+      go None e = stage_effect (target_isn r n) r.command

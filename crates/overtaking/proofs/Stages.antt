@@ -1,7 +1,7 @@
 -- A stage of a call: some moments that lead from one nucleus to another. In each of them a waiter loses his place only in one of the three ways, each
 -- hold of his record that is let go brings him one nearer, and no hold goes that is not counted.
 -- Assumes nothing.
-use Rattle.std.specs.Prelude.{ℕ, ◌+◌, ◌≤◌, ◌<◌, ◌≡◌, Bool, true, ◌&&◌, eqb, length}
+use Rattle.std.specs.Prelude.{ℕ, ◌+◌, ◌≤◌, ◌<◌, ◌≡◌, Bool, true, ◌&&◌, eqb, length, Option, Some, None}
 use native.Mathlib.Omega.{arith}
 use Rattle.std.proofs.Math.Path.{refl}
 use Rattle.std.proofs.Common.{sym, ap, ◌∙◌, eqb-true, lt-ltb}
@@ -12,8 +12,6 @@ use Rattle.lists.specs.Folds.{any, all, total, any_append}
 use Rattle.lists.specs.Sift.{sift, all_keeps}
 use Rattle.entries.specs.Entries.{bit, is_of}
 use Rattle.entries.specs.declared.Entry.{Entry}
-use Rattle.queue.specs.declared.Lookup.{Lookup}
-use Rattle.queue.specs.declared.Lookup.TheVariants.{Held, Free}
 use Rattle.removal.specs.Removal.{stays}
 use Rattle.removal.specs.declared.Removal.TheVariants.{All}
 use Rattle.nucleus.specs.Nucleus.{Nucleus, entries_of}
@@ -158,17 +156,17 @@ module _ (u file isn : ℕ) where
             here (holds same) = not_both false (rw (same_line same ∙ none) at h) refl
             here (fails differs) = (h, rw differs (omega arith))
 
-        go : (l : Lookup) → IsFirst l (line_of f i n) → Fair n (moment (hands_on f i) (handed_to l f i n))
-        go (Held k w) (rest, first) = rw (lt-ltb n.state.count (length n.queue) free) (fair_taking w rest first)
-        go Free none = nobody none
+        go : (l : Option (ℕ × Entry)) → IsFirst l (line_of f i n) → Fair n (moment (hands_on f i) (handed_to l f i n))
+        go (Some (k, w)) (rest, first) = rw (lt-ltb n.state.count (length n.queue) free) (fair_taking w rest first)
+        go None none = nobody none
 
     held_handed_on : holds_of file isn n ≤ holds_of file isn (handed_on f i n)
     unfolding handed_on
     held_handed_on = go (first_in_line n.state.wait_queue f i) (first_is f i (waiters_of n))
       where
-        go : (l : Lookup) → IsFirst l (line_of f i n) → holds_of file isn n ≤ holds_of file isn (handed_to l f i n)
-        go (Held k w) (rest, first) = rw (lt-ltb n.state.count (length n.queue) free) (held_taking w rest first)
-        go Free none = omega arith
+        go : (l : Option (ℕ × Entry)) → IsFirst l (line_of f i n) → holds_of file isn n ≤ holds_of file isn (handed_to l f i n)
+        go (Some (k, w)) (rest, first) = rw (lt-ltb n.state.count (length n.queue) free) (held_taking w rest first)
+        go None none = omega arith
 
   -- all that was let go is handed on
   abbrev pub of_record : List Entry → ℕ

@@ -2,9 +2,8 @@
 -- Assumes nothing.
 use Prim.Native.Nat.{ℕ, ◌+◌, ◌*◌, ◌≤◌}
 use Rattle.std.proofs.Common.{arith, ap}
-use Rattle.std.specs.Prelude.{◌≡◌, refl, not, List, [], ◌∷◌, length}
+use Rattle.std.specs.Prelude.{◌≡◌, refl, not, List, [], ◌∷◌, length, Option, Some, None}
 use Rattle.std.proofs.Math.Bool.{Bool, true, false}
-use Rattle.std.proofs.Math.Option.{Option, none, some}
 use Rattle.std.proofs.Math.Dec.{eqb, leb, ltb}
 use borrow.Author.Tests.{eqb-true, leb-true, ltb-false, not-false}
 use Rattle.lists.specs.Tests.{within, within_most, not_both, Outcome, holds, fails, outcome, and_left, and_right, or_left, or_right}
@@ -70,10 +69,10 @@ module _ (u file isn : ℕ) where
       go (fails t) i = i (rw t at his)
 
 -- ---- no row of the first three holds
-no_cause : {A : Type 0} (cause : Response) → some cause ≡ none → A
-no_cause cause h = absurd (let z : ◌≡◌ {A = ℕ} 1 0 = ap (λ (x : Option Response). elim x [ none ↦ 0 | some c ↦ 1 ]) h in omega arith)
+no_cause : {A : Type 0} (cause : Response) → Some cause ≡ None → A
+no_cause cause h = absurd (let z : ◌≡◌ {A = ℕ} 1 0 = ap (λ (x : Option Response). elim x [ None ↦ 0 | Some c ↦ 1 ]) h in omega arith)
 
-module _ (capacity : ℕ) (n : Nucleus) (passes : first_cause (rows_usable capacity n) ≡ none) where
+module _ (capacity : ℕ) (n : Nucleus) (passes : first_cause (rows_usable capacity n) ≡ None) where
   abbrev short : Bool
   short = too_short n.state.definition capacity n.store n.queue n.images
 
@@ -81,7 +80,7 @@ module _ (capacity : ℕ) (n : Nucleus) (passes : first_cause (rows_usable capac
   unfolding rows_usable
   judged = go (valid n.state.definition) short (well_made capacity n) passes
     where
-      go : (a b c : Bool) → first_cause (row StateInvalid (not a) ∷ row BufferTooShort b ∷ row StateInvalid (not c) ∷ []) ≡ none → (b ≡ false) × (c ≡ true)
+      go : (a b c : Bool) → first_cause (row StateInvalid (not a) ∷ row BufferTooShort b ∷ row StateInvalid (not c) ∷ []) ≡ None → (b ≡ false) × (c ≡ true)
       go false b c h = no_cause StateInvalid h
       go true true c h = no_cause BufferTooShort h
       go true false false h = no_cause StateInvalid h

@@ -1,6 +1,5 @@
 -- Who waits for a record, how many are before him, and what happens in calls, moment by moment (document 02, No. 1).
-use Rattle.std.specs.Prelude.{ℕ, zero, suc, ◌+◌, ◌-◌, max, Bool, false, ◌&&◌, ◌||◌, List, [], ◌∷◌, ◌++◌, eqb}
-use Rattle.std.proofs.Math.Option.{Option, none, some}
+use Rattle.std.specs.Prelude.{ℕ, zero, suc, ◌+◌, ◌-◌, max, Bool, false, ◌&&◌, ◌||◌, List, [], ◌∷◌, ◌++◌, eqb, Option, Some, None}
 use Rattle.lists.specs.Tests.{cond}
 use Rattle.lists.specs.Folds.{any, total}
 use Rattle.lists.specs.Sift.{sift}
@@ -85,15 +84,15 @@ module _ (c : Command) (call : Call) (n : Nucleus) where
   moments_user = moments_notified ++ moment other (left_in (admitted_user c call n)) ∷ []
 
 abbrev pub moments_command : Option Command → Call → Nucleus → List Moment
-moments_command none call n = []
-moments_command (some c) call n =
+moments_command None call n = []
+moments_command (Some c) call n =
     let m = left_by c call n in
     moment (leaving c call n) m ∷ moments_clocked call.clock m ++ moments_user c call (clocked call.clock m)
 
 -- a call that 12, 11, 22 or 72 refuses changes nothing
 abbrev pub moments_unless : Option Response → List Moment → List Moment
-moments_unless (some cause) ms = []
-moments_unless none ms = ms
+moments_unless (Some cause) ms = []
+moments_unless None ms = ms
 
 unfoldable pub moments_admitted : ℕ → Call → Nucleus → List Moment
 moments_admitted capacity call n =

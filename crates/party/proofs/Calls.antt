@@ -1,11 +1,10 @@
 -- Calls at the front of bytes.
 -- Assumes nothing.
-use Rattle.std.specs.Prelude.{ℕ, zero, suc, ◌+◌, ◌-◌, ◌*◌, ◌≤◌, ◌<◌, ◌≡◌, refl, Bool, true, false, ◌&&◌, List, [], ◌∷◌, ◌++◌, eqb, leb, length, get_or, take, drop}
+use Rattle.std.specs.Prelude.{ℕ, zero, suc, ◌+◌, ◌-◌, ◌*◌, ◌≤◌, ◌<◌, ◌≡◌, refl, Bool, true, false, ◌&&◌, List, [], ◌∷◌, ◌++◌, eqb, leb, length, get_or, take, drop, Option, Some, None}
 use Rattle.std.proofs.Common.{arith, sym, ap, ◌∙◌, length-drop, length-take, take_all, eq-eqb, leb-true, leb-false, le-leb}
 use Rattle.std.proofs.lemmas.Bool.{eqb-true, eqb-false}
 use Rattle.std.proofs.lemmas.List.{get_or-take, drop-take, length-take-le}
 use Rattle.std.proofs.Math.Seq.{take-take}
-use Rattle.std.proofs.Math.Option.{Option, none, some}
 use Rattle.lists.specs.Tests.{cond, Outcome, holds, fails, outcome}
 use Rattle.nucleus.specs.Nucleus.{Nucleus, Given}
 use Rattle.nucleus.specs.Step.{step}
@@ -22,8 +21,8 @@ no_bytes : (bytes : List ℕ) (xs : List ℕ) → length bytes ≤ 0 → cond (e
 no_bytes bytes xs h = cond_none (eqb (length bytes) 0) [] xs (eq-eqb (length bytes) 0 (omega arith))
 
 pub answered_same : (c : Option Given) (n : Nucleus) (later later' : Nucleus → List ℕ) → ((n : Nucleus) → later n ≡ later' n) → answered c later n ≡ answered c later' n
-answered_same none n later later' same = refl
-answered_same (some g) n later later' same =
+answered_same None n later later' same = refl
+answered_same (Some g) n later later' same =
     ap (λ xs. line g.call (step capacity g.call g.format g.buffer n) ++ newline ∷ xs) (same (step capacity g.call g.format g.buffer n).nucleus)
 
 pub enough : (f g : ℕ) (bytes : List ℕ) (n : Nucleus) → length bytes ≤ f → length bytes ≤ g → lines f bytes n ≡ lines g bytes n
@@ -88,7 +87,7 @@ module _ (xs : List ℕ) where
       go : Outcome (leb 65 (length xs)) → call_of (take 65 xs) ≡ call_of xs
       go (holds h) = rw (same_form (leb-true 65 (length xs) h)) (whole (outcome (well_formed xs)))
         where
-          whole : Outcome (well_formed xs) → cond (well_formed xs) (some (given_by (take 65 xs))) none ≡ call_of xs
-          whole (holds w) = rw w (ap some (same_given w))
+          whole : Outcome (well_formed xs) → cond (well_formed xs) (Some (given_by (take 65 xs))) None ≡ call_of xs
+          whole (holds w) = rw w (ap Some (same_given w))
           whole (fails w) = rw w refl
       go (fails h) = rw (take_all 65 xs (omega (arith, leb-false 65 (length xs) h))) refl

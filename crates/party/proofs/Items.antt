@@ -5,7 +5,6 @@ use Rattle.std.proofs.Common.{◌≡◌, ℕ, ◌+◌, ◌-◌, ◌≤◌, ◌<�
 use Rattle.std.proofs.lemmas.Slice.{take-put_mid}
 use borrow.Rule.Slice.PartMut.{put_mid, same_len_mid}
 use Rattle.house.specs.House.{rest_of_item}
-use Rattle.house.specs.declared.Rest.TheVariants.{Bytes}
 use Rattle.party.specs.Serving.{Filled, ItemRead}
 
 -- a whole buffer that was filled holds what was at the front
@@ -22,7 +21,7 @@ byte_read at k t b within one =
 
 pub item_read : (r₀ r₁ r₂ : Option (List ℕ)) (at n m₁ m₂ k₁ k₂ : ℕ) (t b₁ b₂ : List ℕ) → at + 1 + n ≤ length t → k₁ ≡ 1 → k₂ ≡ n
     → length b₁ ≡ length (take k₁ (drop at t)) → length b₂ ≡ length (take k₂ (drop (at + 1) (put_mid at k₁ t b₁))) → m₁ ≡ 1 → m₂ ≡ n
-    → Filled r₀ r₁ m₁ b₁ → Filled r₁ r₂ m₂ b₂ → rest_of_item (get_or (put_mid at k₁ t b₁) at 0) ≡ Bytes n
+    → Filled r₀ r₁ m₁ b₁ → Filled r₁ r₂ m₂ b₂ → rest_of_item (get_or (put_mid at k₁ t b₁) at 0) ≡ Some n
     → IfSome r₀ (λ xs. ItemRead xs r₂ at (at + 1 + n) t (put_mid (at + 1) k₂ (put_mid at k₁ t b₁) b₂))
 item_read None r₁ r₂ at n m₁ m₂ k₁ k₂ t b₁ b₂ within p₁ p₂ size₁ size₂ e₁ e₂ first second kind = tt
 item_read (Some xs) r₁ r₂ at n m₁ m₂ k₁ k₂ t b₁ b₂ within p₁ p₂ size₁ size₂ e₁ e₂ first second kind =

@@ -1,6 +1,8 @@
 -- A table that is read to its end from some bytes is read so from more.
 -- Assumes nothing.
-use Rattle.std.specs.Prelude.{ℕ, zero, suc, ◌+◌, ◌-◌, ◌≤◌, ◌<◌, ◌≡◌, refl, Bool, true, false, List, [], ◌++◌, eqb, ltb, length, get_or, take, drop}
+use Rattle.definition.specs.declared.FieldOption.{FieldOption}
+use Rattle.definition.specs.declared.Format.{Format}
+use Rattle.std.specs.Prelude.{ℕ, zero, suc, ◌+◌, ◌-◌, ◌≤◌, ◌<◌, ◌≡◌, refl, Bool, true, false, List, [], ◌++◌, eqb, ltb, length, get_or, take, drop, Option, Some, None}
 use Rattle.std.proofs.Common.{arith, sym, ap, subst, ◌∙◌, length-drop, length-append, ne_eqb}
 use Rattle.std.proofs.lemmas.Bool.{eqb-true, eqb-false, le-ltb, ltb-false}
 use Rattle.std.proofs.lemmas.List.{drop-append-le}
@@ -11,22 +13,16 @@ use Rattle.definition.specs.declared.Definition.{Definition}
 use Rattle.validity.specs.Validity.{valid}
 use Rattle.items.specs.Items.{format_of, option_of, file_item, field_typed, field_item, item_of}
 use Rattle.items.specs.Laws.{item_size, item_fits}
-use Rattle.items.specs.declared.FormatByte.{FormatByte}
-use Rattle.items.specs.declared.FormatByte.TheVariants.{Known as format_known, Unknown as format_unknown}
-use Rattle.items.specs.declared.OptionByte.{OptionByte}
-use Rattle.items.specs.declared.OptionByte.TheVariants.{Known as option_known, Unknown as option_unknown}
 use Rattle.items.specs.declared.Item.{Item}
-use Rattle.items.specs.declared.Item.TheVariants.{File as item_file, Field as item_field, End as item_end, Broken as item_broken}
+use Rattle.items.specs.declared.Item.TheVariants.{File as item_file, Field as item_field, End as item_end}
 use Rattle.reading.specs.Grammar.{room_for_file, room_for_field, add_file, add_field, broken, ended, proceed, read_from, read_table}
-use Rattle.reading.specs.declared.End.{End}
-use Rattle.reading.specs.declared.End.TheVariants.{At, Broken}
 use Rattle.reading.specs.declared.Reading.{Reading}
 use Rattle.party.proofs.Passing.{none_ends, starts_inside}
 
 -- ---- an item with more bytes behind it
 data More (ys zs : List ℕ) : Type 0 where
   same : item_of (ys ++ zs) ≡ item_of ys → More ys zs
-  gone : item_of ys ≡ item_broken → More ys zs
+  gone : item_of ys ≡ None → More ys zs
 
 module _ (ys zs : List ℕ) where
   file_more : 3 ≤ length ys → file_item (ys ++ zs) ≡ file_item ys
@@ -40,10 +36,10 @@ module _ (ys zs : List ℕ) where
         get_or-append ys zs 0 2 (omega arith),
       ) refl
 
-  typed_more : (f : FormatByte) (o : OptionByte) → 5 ≤ length ys → field_typed (ys ++ zs) f o ≡ field_typed ys f o
-  typed_more format_unknown o h = refl
-  typed_more (format_known f) option_unknown h = refl
-  typed_more (format_known f) (option_known o) h =
+  typed_more : (f : Option Format) (o : Option FieldOption) → 5 ≤ length ys → field_typed (ys ++ zs) f o ≡ field_typed ys f o
+  typed_more None o h = refl
+  typed_more (Some f) None h = refl
+  typed_more (Some f) (Some o) h =
       rw (get_or-append ys zs 0 0 (omega arith), get_or-append ys zs 0 1 (omega arith), get_or-append ys zs 0 2 (omega arith)) refl
 
   field_more : 5 ≤ length ys → field_item (ys ++ zs) ≡ field_item ys
@@ -57,11 +53,11 @@ module _ (ys zs : List ℕ) where
       )
       (typed_more (format_of (get_or ys 3 0)) (option_of (get_or ys 4 0)) h)
 
-file_short : (body : List ℕ) → ltb (length body) 3 ≡ true → file_item body ≡ item_broken
+file_short : (body : List ℕ) → ltb (length body) 3 ≡ true → file_item body ≡ None
 unfolding file_item
 file_short body h = rw h refl
 
-field_short : (body : List ℕ) → ltb (length body) 5 ≡ true → field_item body ≡ item_broken
+field_short : (body : List ℕ) → ltb (length body) 5 ≡ true → field_item body ≡ None
 unfolding field_item
 field_short body h = rw h refl
 
@@ -100,11 +96,11 @@ item_more ys zs = go (outcome (eqb (length ys) 0)) (outcome (eqb (get_or ys 0 0)
         kinds (fails q) (fails r) (fails s) = gone (rw (e, q, r, s) refl)
 
 -- ---- a reading with more bytes and more fuel
-cond_more : (b : Bool) (r r' : Reading) (e : ℕ) → (r.end ≡ At e → r'.end ≡ At e) → (cond b r broken).end ≡ At e → (cond b r' broken).end ≡ At e
+cond_more : (b : Bool) (r r' : Reading) (e : ℕ) → (r.end ≡ Some e → r'.end ≡ Some e) → (cond b r broken).end ≡ Some e → (cond b r' broken).end ≡ Some e
 cond_more true r r' e later q = later q
 cond_more false r r' e later q = q
 
-from_more : (f g : ℕ) (t zs : List ℕ) (at : ℕ) (d : Definition) (e : ℕ) → f ≤ g → (read_from f t at d).end ≡ At e → (read_from g (t ++ zs) at d).end ≡ At e
+from_more : (f g : ℕ) (t zs : List ℕ) (at : ℕ) (d : Definition) (e : ℕ) → f ≤ g → (read_from f t at d).end ≡ Some e → (read_from g (t ++ zs) at d).end ≡ Some e
 unfolding read_from
 from_more zero g t zs at d e p q = none_ends e q
 from_more (suc f) zero t zs at d e p q = absurd (omega arith)
@@ -112,18 +108,18 @@ from_more (suc f) (suc g) t zs at d e p q =
     go (item_more (drop at t) zs) (λ at d. from_more f g t zs at d e (omega arith))
   where
     Later : Type 0
-    Later = (at : ℕ) (d : Definition) → (read_from f t at d).end ≡ At e → (read_from g (t ++ zs) at d).end ≡ At e
+    Later = (at : ℕ) (d : Definition) → (read_from f t at d).end ≡ Some e → (read_from g (t ++ zs) at d).end ≡ Some e
 
-    by_item : Later → (i : Item) → (proceed (read_from f t) at d i).end ≡ At e → (proceed (read_from g (t ++ zs)) at d i).end ≡ At e
-    by_item later (item_file n m) = cond_more (room_for_file d) _ _ e (later (at + 4) (add_file d n m))
-    by_item later (item_field h) = cond_more (room_for_field d) _ _ e (later (at + 6) (add_field d h))
-    by_item later item_end = λ r. r
-    by_item later item_broken = λ r. r
+    by_item : Later → (i : Option Item) → (proceed (read_from f t) at d i).end ≡ Some e → (proceed (read_from g (t ++ zs)) at d i).end ≡ Some e
+    by_item later (Some (item_file n m)) = cond_more (room_for_file d) _ _ e (later (at + 4) (add_file d n m))
+    by_item later (Some (item_field h)) = cond_more (room_for_field d) _ _ e (later (at + 6) (add_field d h))
+    by_item later (Some item_end) = λ r. r
+    by_item later None = λ r. r
 
-    go : More (drop at t) zs → Later → (proceed (read_from g (t ++ zs)) at d (item_of (drop at (t ++ zs)))).end ≡ At e
+    go : More (drop at t) zs → Later → (proceed (read_from g (t ++ zs)) at d (item_of (drop at (t ++ zs)))).end ≡ Some e
     go (same h) later = rw (drop-append-le at t zs (starts_inside t f at d e q), h) (by_item later (item_of (drop at t)) q)
-    go (gone h) later = none_ends e (subst (λ i. (proceed (read_from f t) at d i).end ≡ At e) h q)
+    go (gone h) later = none_ends e (subst (λ i. (proceed (read_from f t) at d i).end ≡ Some e) h q)
 
-pub table_more : (t zs : List ℕ) (e : ℕ) → (read_table t).end ≡ At e → (read_table (t ++ zs)).end ≡ At e
+pub table_more : (t zs : List ℕ) (e : ℕ) → (read_table t).end ≡ Some e → (read_table (t ++ zs)).end ≡ Some e
 unfolding read_table
 table_more t zs e = from_more (length t) (length (t ++ zs)) t zs 0 no_definition e (omega (arith, length-append t zs))

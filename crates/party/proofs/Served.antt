@@ -2,7 +2,6 @@
 -- Assumes nothing.
 use Rattle.std.specs.Prelude.{Option as Optional, None, Some, IfSome, min, Bool, true, false, not, ltb, eqb, suc}
 use Rattle.std.proofs.Common.{◌≡◌, ℕ, ◌+◌, ◌-◌, ◌≤◌, ◌<◌, refl, List, [], ◌∷◌, ◌++◌, arith, length, take, drop, get_or, sym, ap, ◌∙◌, subst, take_all, append_assoc, ltb-true, ltb-false, ne_eqb, length-take, length-drop}
-use Rattle.std.proofs.Math.Option.{Option, none, some}
 use Rattle.std.specs.Io.KnownBytes.{Appends}
 use Rattle.std.proofs.KnownBytes.{Appends-nil}
 use Rattle.lists.specs.Tests.{cond, Outcome, holds, fails, outcome}
@@ -55,17 +54,17 @@ module _ (xs : List ℕ) (r : Optional (List ℕ)) (n : ℕ) (bytes : List ℕ) 
   same_call = ap call_of (f.1 ∙ taken) ∙ call_front xs
 
 -- a good call is whole, and its record buffer is no longer than it may be
-call_whole : (xs : List ℕ) (g : Given) → call_of xs ≡ some g → (call_length ≤ length xs) × (length g.buffer ≤ 35)
+call_whole : (xs : List ℕ) (g : Given) → call_of xs ≡ Some g → (call_length ≤ length xs) × (length g.buffer ≤ 35)
 unfolding call_of given_by
 call_whole xs g = go (outcome (well_formed xs))
   where
-    go : Outcome (well_formed xs) → call_of xs ≡ some g → (call_length ≤ length xs) × (length g.buffer ≤ 35)
+    go : Outcome (well_formed xs) → call_of xs ≡ Some g → (call_length ≤ length xs) × (length g.buffer ≤ 35)
     go (holds w) q =
-        let there : some (given_by xs) ≡ some g = sym (rw w refl) ∙ q in
+        let there : Some (given_by xs) ≡ Some g = sym (rw w refl) ∙ q in
         let same : given_by xs ≡ g = cc in
         let size = ap (λ g. length g.buffer) same in
         (formed_length xs w, omega (arith, formed_buffer xs w, length-take (byte xs buffer_length_at) (drop buffer_at xs), size))
-    go (fails w) q = let bad : none ≡ some g = sym (rw w refl) ∙ q in absurd (let z : ◌≡◌ {A = ℕ} 0 1 = cc in omega arith)
+    go (fails w) q = let bad : None ≡ Some g = sym (rw w refl) ∙ q in absurd (let z : ◌≡◌ {A = ℕ} 0 1 = cc in omega arith)
 
 -- ---- what comes of it
 pub served_none : (r₀ r : Optional (List ℕ)) (n : ℕ) (bytes : List ℕ) (a : Optional (List ℕ)) (k : Nucleus) → length bytes ≡ 65 → Filled r₀ r n bytes → n ≡ 0
@@ -79,7 +78,7 @@ unfolding sent_as
 served_bad None r n bytes a b k s long f z q not_good w = tt
 served_bad (Some xs) r n bytes a b k s long f z q not_good w =
     let bad_one : s.good ≡ false = not_true s.good not_good in
-    let call : none ≡ call_of xs = sym (rw bad_one refl) ∙ q ∙ same_call xs r n bytes long f in
+    let call : None ≡ call_of xs = sym (rw bad_one refl) ∙ q ∙ same_call xs r n bytes long f in
     subst (Appends a b) (sym (a_line xs k (omega (arith, f.0, long, z)) ∙ ap (λ c. answered c (lines_of (drop call_length xs)) k) (sym call))) w
 
 abbrev pub Served : List ℕ → Optional (List ℕ) → Optional (List ℕ) → Optional (List ℕ) → Nucleus → Nucleus → Type 0
@@ -108,7 +107,7 @@ served (Some xs) r n bytes a b k left s long f z q good p = (
     gone : Result
     gone = step capacity s.call (take s.format_length s.format) (take s.buffer_length s.buffer) k
 
-    call : some g ≡ call_of xs
+    call : Some g ≡ call_of xs
     call = sym (rw (not_false s.good good) refl) ∙ q ∙ same_call xs r n bytes long f
 
     whole : (call_length ≤ length xs) × (length g.buffer ≤ 35)

@@ -4,30 +4,27 @@ use Rattle.std.specs.Prelude.{Option, None, Some, IfSome, min, ltb, eqb}
 use Rattle.std.proofs.Common.{◌≡◌, ℕ, ◌+◌, ◌-◌, ◌≤◌, ◌<◌, refl, List, [], ◌++◌, arith, length, take, drop, get_or, sym, ap, ◌∙◌, subst, length-drop, take-add, drop-drop, ltb-true, ltb-false, eqb-true}
 use Rattle.std.proofs.lemmas.Bool.{eqb-false}
 use Rattle.reading.specs.Grammar.{read_table}
-use Rattle.reading.specs.declared.End.TheVariants.{At}
 use Rattle.house.specs.House.{rest_of_item}
-use Rattle.house.specs.declared.Rest.TheVariants.{Bytes, Unknown}
-use Rattle.house.specs.declared.Rest.{Rest}
 use Rattle.lists.specs.Tests.{Outcome, holds, fails, outcome}
 use Rattle.party.proofs.Passing.{Passes, passes_start, passes_item, passes_end, passes_none, passes_full}
 use Rattle.party.specs.Serving.{ItemRead, NoItem, TableRead}
 
 -- ---- kinds
-bytes_same : (n m : ℕ) → Bytes n ≡ Bytes m → n ≡ m
+bytes_same : (n m : ℕ) → Some n ≡ Some m → n ≡ m
 bytes_same n m q = cc
 
-no_bytes : {P : Type 0} (n : ℕ) → Unknown ≡ Bytes n → P
+no_bytes : {P : Type 0} (n : ℕ) → None ≡ Some n → P
 no_bytes n q = absurd (let z : ◌≡◌ {A = ℕ} 0 1 = cc in omega arith)
 
-kind_zero : (k : ℕ) → rest_of_item k ≡ Bytes 0 → k ≡ 0
+kind_zero : (k : ℕ) → rest_of_item k ≡ Some 0 → k ≡ 0
 unfolding rest_of_item
 kind_zero k = go (outcome (eqb k 0)) (outcome (eqb k 1)) (outcome (eqb k 2))
   where
-    go : Outcome (eqb k 0) → Outcome (eqb k 1) → Outcome (eqb k 2) → rest_of_item k ≡ Bytes 0 → k ≡ 0
+    go : Outcome (eqb k 0) → Outcome (eqb k 1) → Outcome (eqb k 2) → rest_of_item k ≡ Some 0 → k ≡ 0
     go (holds a) b c q = eqb-true k 0 a
-    go (fails a) (holds b) c q = let long : Bytes 3 ≡ Bytes 0 = sym (rw (a, b) refl) ∙ q in absurd (omega (arith, bytes_same 3 0 long))
-    go (fails a) (fails b) (holds c) q = let long : Bytes 5 ≡ Bytes 0 = sym (rw (a, b, c) refl) ∙ q in absurd (omega (arith, bytes_same 5 0 long))
-    go (fails a) (fails b) (fails c) q = let bad : Unknown ≡ Bytes 0 = sym (rw (a, b, c) refl) ∙ q in no_bytes 0 bad
+    go (fails a) (holds b) c q = let long : Some 3 ≡ Some 0 = sym (rw (a, b) refl) ∙ q in absurd (omega (arith, bytes_same 3 0 long))
+    go (fails a) (fails b) (holds c) q = let long : Some 5 ≡ Some 0 = sym (rw (a, b, c) refl) ∙ q in absurd (omega (arith, bytes_same 5 0 long))
+    go (fails a) (fails b) (fails c) q = let bad : None ≡ Some 0 = sym (rw (a, b, c) refl) ∙ q in no_bytes 0 bad
 
 -- so far a table lies where it was read to, and a reading of it goes by there
 abbrev pub Passed : List ℕ → Option (List ℕ) → ℕ → List ℕ → Type 0
@@ -61,7 +58,7 @@ module _ (xs : List ℕ) (r left : Option (List ℕ)) (at next : ℕ) (old new :
       none_behind = omega (arith, i.2, last)
 
       zero_kind : get_or (drop at xs) 0 0 ≡ 0
-      zero_kind = kind_zero (get_or (drop at xs) 0 0) (i.1 ∙ ap Bytes none_behind)
+      zero_kind = kind_zero (get_or (drop at xs) 0 0) (i.1 ∙ ap Some none_behind)
 
 pub passed_item : (r₀ r left : Option (List ℕ)) (at next : ℕ) (old new : List ℕ) → IfSome r₀ (λ xs. Passed xs r at old) → IfSome r (λ ys. ItemRead ys left at next old new)
     → (next ≡ at + 1 → ⊥) → IfSome r₀ (λ xs. Passed xs left next new)
@@ -75,25 +72,25 @@ passed_end (Some xs) r left at next old new p i h = ends xs r left at next old n
 
 -- ---- no item more
 module _ (xs : List ℕ) (at : ℕ) (p : Passes xs at) where
-  stuck : (room : ℕ) → 1601 ≤ at + room → NoItem (drop at xs) room → (e : ℕ) → (read_table xs).end ≡ At e → ⊥
+  stuck : (room : ℕ) → 1601 ≤ at + room → NoItem (drop at xs) room → (e : ℕ) → (read_table xs).end ≡ Some e → ⊥
   stuck room long none = go (rest_of_item (get_or (drop at xs) 0 0)) refl
     where
-      cut : (n : ℕ) → rest_of_item (get_or (drop at xs) 0 0) ≡ Bytes n → Outcome (ltb (length xs - at) (1 + n)) → (e : ℕ) → (read_table xs).end ≡ At e → ⊥
+      cut : (n : ℕ) → rest_of_item (get_or (drop at xs) 0 0) ≡ Some n → Outcome (ltb (length xs - at) (1 + n)) → (e : ℕ) → (read_table xs).end ≡ Some e → ⊥
       cut n k (holds h) = passes_none xs at (λ m k'. omega (arith, bytes_same m n (sym k' ∙ k), ltb-true (length xs - at) (1 + n) h)) p
       cut n k (fails h) = full (outcome (eqb n 0))
         where
           over : 1601 < at + 1 + n
           over = omega (arith, none n k, length-drop at xs, ltb-false (length xs - at) (1 + n) h, long)
 
-          full : Outcome (eqb n 0) → (e : ℕ) → (read_table xs).end ≡ At e → ⊥
+          full : Outcome (eqb n 0) → (e : ℕ) → (read_table xs).end ≡ Some e → ⊥
           full (holds z) = passes_full xs at (omega (arith, over, eqb-true n 0 z)) p
           full (fails z) = passes_full xs (at + 1 + n) (omega (arith, over)) (passes_item xs at n k (omega (arith, eqb-false n 0 z)) p)
 
-      go : (w : Rest) → rest_of_item (get_or (drop at xs) 0 0) ≡ w → (e : ℕ) → (read_table xs).end ≡ At e → ⊥
-      go (Bytes n) k = cut n k (outcome (ltb (length xs - at) (1 + n)))
-      go Unknown k = passes_none xs at (λ n k'. no_bytes n (sym k ∙ k')) p
+      go : (w : Option ℕ) → rest_of_item (get_or (drop at xs) 0 0) ≡ w → (e : ℕ) → (read_table xs).end ≡ Some e → ⊥
+      go (Some n) k = cut n k (outcome (ltb (length xs - at) (1 + n)))
+      go None k = passes_none xs at (λ n k'. no_bytes n (sym k ∙ k')) p
 
-  nowhere : (left : Option (List ℕ)) (new : List ℕ) → ((e : ℕ) → (read_table xs).end ≡ At e → ⊥) → TableRead xs left 0 new
+  nowhere : (left : Option (List ℕ)) (new : List ℕ) → ((e : ℕ) → (read_table xs).end ≡ Some e → ⊥) → TableRead xs left 0 new
   nowhere left new never = (refl, (λ e q. absurd (never e q)), λ h. absurd (omega arith))
 
 pub passed_none : (r₀ r left : Option (List ℕ)) (at room : ℕ) (old new : List ℕ) → IfSome r₀ (λ xs. Passed xs r at old) → IfSome r (λ ys. NoItem ys room) → 1601 ≤ at + room

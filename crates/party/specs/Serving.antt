@@ -2,13 +2,11 @@
 use Rattle.std.specs.Prelude.{ℕ, ◌+◌, ◌-◌, ◌≤◌, ◌<◌, ◌≡◌, min, List, [], ◌∷◌, ◌++◌, length, take, drop, get_or, Option, None, Some, IfSome}
 use Rattle.std.specs.Io.KnownBytes.{Appends}
 use Rattle.reading.specs.Grammar.{read_table}
-use Rattle.reading.specs.declared.End.TheVariants.{At}
 use Rattle.nucleus.specs.Nucleus.{Nucleus, Result, nucleus}
 use Rattle.nucleus.specs.Line.{line}
 use Rattle.nucleus.specs.declared.Call.{Call}
 use Rattle.nucleus.specs.declared.State.{State}
 use Rattle.house.specs.House.{call_length, rest_of_item}
-use Rattle.house.specs.declared.Rest.TheVariants.{Bytes}
 use Rattle.output.specs.Output.{newline, lines}
 
 -- so many bytes were read to the front of a buffer: as many as it has room for, or all that were left
@@ -19,17 +17,17 @@ Filled old new n buffer = IfSome old (λ xs. (n ≡ min (length buffer) (length 
 -- an item lay at the front of the bytes, and lies behind a place of the table now
 abbrev pub ItemRead : List ℕ → Option (List ℕ) → ℕ → ℕ → List ℕ → List ℕ → Type 0
 ItemRead xs left at next old new =
-    (n : ℕ) × (rest_of_item (get_or xs 0 0) ≡ Bytes n) × (next ≡ at + 1 + n) × (1 + n ≤ length xs)
+    (n : ℕ) × (rest_of_item (get_or xs 0 0) ≡ Some n) × (next ≡ at + 1 + n) × (1 + n ≤ length xs)
     × (take next new ≡ take at old ++ take (1 + n) xs) × (left ≡ Some (drop (1 + n) xs))
 
 -- no item lies there: its kind is unknown, it is cut, or there is no room for it
 abbrev pub NoItem : List ℕ → ℕ → Type 0
-NoItem xs room = (n : ℕ) → rest_of_item (get_or xs 0 0) ≡ Bytes n → min (length xs) room < 1 + n
+NoItem xs room = (n : ℕ) → rest_of_item (get_or xs 0 0) ≡ Some n → min (length xs) room < 1 + n
 
 -- the only place where a good table may end; it is read as far as that
 abbrev pub TableRead : List ℕ → Option (List ℕ) → ℕ → List ℕ → Type 0
 TableRead xs left n table =
-    (take n table ≡ take n xs) × ((e : ℕ) → (read_table xs).end ≡ At e → e ≡ n) × (0 < n → left ≡ Some (drop n xs))
+    (take n table ≡ take n xs) × ((e : ℕ) → (read_table xs).end ≡ Some e → e ≡ n) × (0 < n → left ≡ Some (drop n xs))
 
 -- ---- the calls
 -- a call that leaves so much has printed its line, where its record buffer is one of the house call list

@@ -11,7 +11,6 @@ ghost use Rattle.nucleus.specs.Line.{line_of};
 ghost use Rattle.output.specs.Output.{bad, capacity, newline, output};
 ghost use Rattle.party.specs.Serving.{Filled, ItemRead, NoItem, TableRead, CallPrinted, lines_of, OneServed};
 
-use house::Rest;
 use nucleus::{Answer, Call, State};
 use std::io;
 use std::io::{Read, Write};
@@ -64,7 +63,7 @@ fn read_item<R: Read>(input: &mut R, table: &mut [u8], at: usize) -> io::Result<
     if read_full(input, &mut table[at..body])? != 1 {
         return Ok(0);
     }
-    let Rest::Bytes(n) = house::rest_of_item(table[at]) else {
+    let Some(n) = house::rest_of_item(table[at]) else {
         return Ok(0);
     };
     if table.len() - body < n {

@@ -1,11 +1,9 @@
 -- Worked examples: lookups, counts, a new entry and a change, computed by the definitions. Assumes nothing.
-use Rattle.std.specs.Prelude.{ℕ, ◌+◌, ◌≡◌, refl, Bool, true, false, ◌&&◌, List, [], ◌∷◌, eqb}
+use Rattle.std.specs.Prelude.{ℕ, ◌+◌, ◌≡◌, refl, Bool, true, false, ◌&&◌, List, [], ◌∷◌, eqb, Option, Some, None}
 use Rattle.lists.specs.Folds.{all}
 use Rattle.entries.specs.Entries.{pack_of, unpack_of, entries}
 use Rattle.queue.specs.Queue.{holder, held_by, append}
 use Rattle.entries.specs.declared.Entry.{Entry}
-use Rattle.queue.specs.declared.Lookup.{Lookup}
-use Rattle.queue.specs.declared.Lookup.TheVariants.{Held, Free}
 
 first : Entry
 first = record { user = 1; file = 16; isn = 4095; changed = true; existed = false }
@@ -17,9 +15,9 @@ words : List ℕ
 words = pack_of first ∷ pack_of second ∷ pack_of first ∷ 5 ∷ []
 
 -- ---- a count, a file and an ISN, and the place where they are held, from 1, or 0 for nobody
-place : Lookup → ℕ
-place (Held i e) = i + 1
-place Free = 0
+place : Option (ℕ × Entry) → ℕ
+place (Some (i, e)) = i + 1
+place None = 0
 
 record Row : Type 0 where
   count : ℕ

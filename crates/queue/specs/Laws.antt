@@ -1,6 +1,6 @@
 -- Laws of the hold queue: what looking up finds, and counting; what adding an entry makes of the list of entries.
 -- Assumes nothing.
-use Rattle.std.specs.Prelude.{ℕ, zero, suc, ◌+◌, ◌≤◌, ◌<◌, ◌≡◌, refl, Bool, true, false, not, List, [], ◌∷◌, ◌++◌, map, eqb, length, get_or, set}
+use Rattle.std.specs.Prelude.{ℕ, zero, suc, ◌+◌, ◌≤◌, ◌<◌, ◌≡◌, refl, Bool, true, false, not, List, [], ◌∷◌, ◌++◌, map, eqb, length, get_or, set, Option, Some, None}
 use Rattle.std.proofs.Common.{suc-le-suc, le_of_suc-le-suc, arith, sym, ap, ◌∙◌, length-set, get_or-set_same, eqb-true}
 use Rattle.std.proofs.Math.Seq.{set_out}
 use Rattle.std.proofs.lemmas.Bool.{not-true}
@@ -10,14 +10,12 @@ use Rattle.lists.specs.Tests.{Outcome, holds, fails, outcome, not_both, and_left
 use Rattle.entries.specs.Entries.{bit, pack_of, is_of, entries}
 use Rattle.entries.specs.Laws.{Shape, unpack_pack, no_entry, entries_last, entries_kept}
 use Rattle.queue.specs.Queue.{seek, holder, one_of, held_by, append}
-use Rattle.queue.specs.declared.Lookup.{Lookup}
-use Rattle.queue.specs.declared.Lookup.TheVariants.{Held, Free}
 use Rattle.entries.specs.declared.Entry.{Entry}
 
 -- ---- what looking up finds
-abbrev pub is_held : Lookup → Bool
-is_held (Held i e) = true
-is_held Free = false
+abbrev pub is_held : Option (ℕ × Entry) → Bool
+is_held (Some (i, e)) = true
+is_held None = false
 
 held_seek : (file isn : ℕ) (es : List Entry) (i : ℕ) → is_held (seek file isn es i) ≡ any (is_of file isn) es
 held_seek file isn [] i = refl
@@ -45,15 +43,16 @@ record Sought (es : List Entry) (file isn from i : ℕ) (e : Entry) : Type 0 whe
   found : Found es file isn step e
 
 module _ (file isn : ℕ) where
-  seek_found : (es : List Entry) (from i : ℕ) (e : Entry) → seek file isn es from ≡ Held i e → Sought es file isn from i e
+  seek_found : (es : List Entry) (from i : ℕ) (e : Entry) → seek file isn es from ≡ Some (i, e) → Sought es file isn from i e
   seek_found [] from i e h = absurd (let z : ◌≡◌ {A = ℕ} 0 1 = ap (λ r. bit (is_held r)) h in omega arith)
   seek_found (x ∷ es) from i e h = go (outcome (is_of file isn x)) (seek_found es (from + 1) i e)
     where
-      go : Outcome (is_of file isn x) → (seek file isn es (from + 1) ≡ Held i e → Sought es file isn (from + 1) i e) → Sought (x ∷ es) file isn from i e
+      go : Outcome (is_of file isn x) → (seek file isn es (from + 1) ≡ Some (i, e) → Sought es file isn (from + 1) i e) → Sought (x ∷ es) file isn from i e
       go (holds p) f =
-          let here : Held from x ≡ Held i e = rw p at h in
-          let at : from ≡ i = cc in
-          let entry : x ≡ e = cc in
+          let here : Some (from, x) ≡ Some (i, e) = rw p at h in
+          let both : ◌≡◌ {A = ℕ × Entry} (from, x) (i, e) = cc in
+          let at : from ≡ i = ap (λ (p : ℕ × Entry). p.0) both in
+          let entry : x ≡ e = ap (λ (p : ℕ × Entry). p.1) both in
           record {
             step = 0;
             is = omega arith;
@@ -76,14 +75,14 @@ module _ (file isn : ℕ) where
           earlier q g zero b = q
           earlier q g (suc k) b = g k (le_of_suc-le-suc b)
 
-  pub held_found : (es : List Entry) (i : ℕ) (e : Entry) → holder es file isn ≡ Held i e → Found es file isn i e
+  pub held_found : (es : List Entry) (i : ℕ) (e : Entry) → holder es file isn ≡ Some (i, e) → Found es file isn i e
   unfolding holder
   held_found es i e h =
       let r = seek_found es 0 i e h in
       let at : r.step ≡ i = omega (arith, r.is) in
       rw at at r.found
 
-  pub free_none : (es : List Entry) → holder es file isn ≡ Free → any (is_of file isn) es ≡ false
+  pub free_none : (es : List Entry) → holder es file isn ≡ None → any (is_of file isn) es ≡ false
   free_none es h = sym (held_any file isn es) ∙ ap is_held h
 
 -- of a list with others behind it: the same, where it finds, and else the last
@@ -99,17 +98,17 @@ pub holder_front : (file isn : ℕ) (es fs : List Entry) → is_held (holder es 
 unfolding holder
 holder_front file isn es fs h = seek_front file isn es fs 0 (sym (held_any file isn es) ∙ h)
 
-seek_last : (file isn : ℕ) (e : Entry) (es : List Entry) (i : ℕ) → any (is_of file isn) es ≡ false → is_of file isn e ≡ true → seek file isn (es ++ e ∷ []) i ≡ Held (i + length es) e
+seek_last : (file isn : ℕ) (e : Entry) (es : List Entry) (i : ℕ) → any (is_of file isn) es ≡ false → is_of file isn e ≡ true → seek file isn (es ++ e ∷ []) i ≡ Some (i + length es, e)
 seek_last file isn e [] i h t = let z : i + 0 ≡ i = omega arith in rw (t, z)
 seek_last file isn e (x ∷ es) i h t =
     let z : i + suc (length es) ≡ i + 1 + length es = omega arith in
     rw (or_left (is_of file isn x) (any (is_of file isn) es) h, z) (seek_last file isn e es (i + 1) (or_right (is_of file isn x) (any (is_of file isn) es) h) t)
 
-pub holder_last : (es : List Entry) (e : Entry) → holder es e.file e.isn ≡ Free → holder (es ++ e ∷ []) e.file e.isn ≡ Held (length es) e
+pub holder_last : (es : List Entry) (e : Entry) → holder es e.file e.isn ≡ None → holder (es ++ e ∷ []) e.file e.isn ≡ Some (length es, e)
 unfolding holder
 holder_last es e free =
     let here : is_of e.file e.isn e ≡ true = rw (eqb_self e.file, eqb_self e.isn) in
-    seek_last e.file e.isn e es 0 (free_none e.file e.isn es free) here ∙ ap (λ k. Held k e) (omega arith)
+    seek_last e.file e.isn e es 0 (free_none e.file e.isn es free) here ∙ ap (λ k. Some (k, e)) (omega arith)
 
 -- two entries of one record, either way round
 pub is_of_swap : (e f : Entry) → is_of f.file f.isn e ≡ is_of e.file e.isn f

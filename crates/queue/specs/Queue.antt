@@ -1,19 +1,17 @@
 -- The hold queue: who holds what, and a new entry.
-use Rattle.std.specs.Prelude.{ℕ, ◌+◌, List, [], ◌∷◌, eqb, set}
+use Rattle.std.specs.Prelude.{ℕ, ◌+◌, List, [], ◌∷◌, eqb, set, Option, Some, None}
 use Rattle.lists.specs.Tests.{cond}
 use Rattle.lists.specs.Folds.{total}
 use Rattle.entries.specs.Entries.{bit, pack_of, is_of}
 use Rattle.entries.specs.declared.Entry.{Entry}
-use Rattle.queue.specs.declared.Lookup.{Lookup}
-use Rattle.queue.specs.declared.Lookup.TheVariants.{Held, Free}
 
 -- ---- who holds what
 -- the first entry from here on of the file and ISN, with its place
-abbrev pub seek : ℕ → ℕ → List Entry → ℕ → Lookup
-seek file isn [] i = Free
-seek file isn (e ∷ es) i = cond (is_of file isn e) (Held i e) (seek file isn es (i + 1))
+abbrev pub seek : ℕ → ℕ → List Entry → ℕ → Option (ℕ × Entry)
+seek file isn [] i = None
+seek file isn (e ∷ es) i = cond (is_of file isn e) (Some (i, e)) (seek file isn es (i + 1))
 
-unfoldable pub holder : List Entry → ℕ → ℕ → Lookup
+unfoldable pub holder : List Entry → ℕ → ℕ → Option (ℕ × Entry)
 holder es file isn = seek file isn es 0
 
 -- how many entries a user has

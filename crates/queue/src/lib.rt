@@ -8,13 +8,6 @@ ghost use Rattle.queue.specs.Queue.{holder, held_by, append};
 
 use entries::Entry;
 
-// What looking up a file and an ISN finds: the entry and its place, or nobody.
-#[derive(Clone, Copy)]
-pub enum Lookup {
-    Held(usize, Entry),
-    Free,
-}
-
 fn is_of(e: Entry, file: u8, isn: u16) -> bool
     ensures { result ≡ is_of file isn e }
 {
@@ -22,7 +15,7 @@ fn is_of(e: Entry, file: u8, isn: u16) -> bool
 }
 
 // The first entry of the file and ISN.
-pub fn holder(queue: &[u64], count: usize, file: u8, isn: u16) -> Lookup
+pub fn holder(queue: &[u64], count: usize, file: u8, isn: u16) -> Option<(usize, Entry)>
     ensures { result ≡ holder (entries queue.now count) file isn }
 {
     let n = slices::least(count, queue.len());
@@ -30,11 +23,11 @@ pub fn holder(queue: &[u64], count: usize, file: u8, isn: u16) -> Lookup
     while i < n {
         let e = entries::unpack(queue[i]);
         if is_of(e, file, isn) {
-            return Lookup::Held(i, e);
+            return Some((i, e));
         }
         i += 1;
     }
-    Lookup::Free
+    None
 }
 
 // How many entries the user has, in all files.

@@ -2,7 +2,7 @@
 -- Assumes nothing.
 use Prim.Native.Nat.{ℕ, zero, suc, ◌+◌, ◌-◌, ◌≤◌}
 use Rattle.std.proofs.Common.{arith, length-drop}
-use Rattle.std.specs.Prelude.{◌≡◌, Bool, true, false, List, length, drop}
+use Rattle.std.specs.Prelude.{◌≡◌, Bool, true, false, List, length, drop, Some, Option, None}
 use Rattle.lists.specs.Tests.{cond, Outcome, holds, fails, outcome}
 use Rattle.definition.specs.Table.{no_definition}
 use Rattle.validity.specs.Validity.{valid}
@@ -11,13 +11,12 @@ use Rattle.items.specs.Laws.{item_size, item_fits}
 use Rattle.reading.specs.Grammar.{room_for_file, room_for_field, add_file, add_field, broken, ended, proceed, read_from, read_table}
 use Rattle.definition.specs.declared.Definition.{Definition}
 use Rattle.items.specs.declared.Item.{Item}
-use Rattle.items.specs.declared.Item.TheVariants.{File as item_file, Field as item_field, End as item_end, Broken as item_broken}
-use Rattle.reading.specs.declared.End.TheVariants.{At}
+use Rattle.items.specs.declared.Item.TheVariants.{File as item_file, Field as item_field, End as item_end}
 use Rattle.reading.specs.declared.Reading.{Reading}
 
 -- ---- a reading that has an end has a valid definition, and ends within the bytes; one that is broken has no file
 pub data Sound (bytes : List ℕ) : Reading → Type 0 where
-  whole : {d : Definition} {e : ℕ} → valid d ≡ true → e ≤ length bytes → Sound bytes (record { end = At e; definition = d })
+  whole : {d : Definition} {e : ℕ} → valid d ≡ true → e ≤ length bytes → Sound bytes (record { end = Some e; definition = d })
   refused : Sound bytes broken
 
 module _ (bytes : List ℕ) where
@@ -33,11 +32,11 @@ module _ (bytes : List ℕ) where
   cond_sound false r s = refused
 
   module _ (on : ℕ → Definition → Reading) (later : (at : ℕ) (d : Definition) → Sound bytes (on at d)) where
-    proceed_sound : (at : ℕ) (d : Definition) (i : Item) → item_size i ≤ length bytes - at → Sound bytes (proceed on at d i)
-    proceed_sound at d (item_file n m) h = cond_sound (room_for_file d) (on (at + 4) (add_file d n m)) (later (at + 4) (add_file d n m))
-    proceed_sound at d (item_field f) h = cond_sound (room_for_field d) (on (at + 6) (add_field d f)) (later (at + 6) (add_field d f))
-    proceed_sound at d item_end h = ended_sound d (at + 1) (omega arith)
-    proceed_sound at d item_broken h = refused
+    proceed_sound : (at : ℕ) (d : Definition) (i : Option Item) → item_size i ≤ length bytes - at → Sound bytes (proceed on at d i)
+    proceed_sound at d (Some (item_file n m)) h = cond_sound (room_for_file d) (on (at + 4) (add_file d n m)) (later (at + 4) (add_file d n m))
+    proceed_sound at d (Some (item_field f)) h = cond_sound (room_for_field d) (on (at + 6) (add_field d f)) (later (at + 6) (add_field d f))
+    proceed_sound at d (Some item_end) h = ended_sound d (at + 1) (omega arith)
+    proceed_sound at d None h = refused
 
   from_sound : (fuel at : ℕ) (d : Definition) → Sound bytes (read_from fuel bytes at d)
   unfolding read_from
@@ -49,16 +48,16 @@ module _ (bytes : List ℕ) where
   unfolding read_table
   read_sound = from_sound (length bytes) 0 no_definition
 
-  pub read_valid : (e : ℕ) → (read_table bytes).end ≡ At e → valid (read_table bytes).definition ≡ true
+  pub read_valid : (e : ℕ) → (read_table bytes).end ≡ Some e → valid (read_table bytes).definition ≡ true
   read_valid e = go (read_table bytes) read_sound
     where
-      go : (r : Reading) → Sound bytes r → r.end ≡ At e → valid r.definition ≡ true
+      go : (r : Reading) → Sound bytes r → r.end ≡ Some e → valid r.definition ≡ true
       go r (whole v h) q = v
       go r refused q = absurd (let z : ◌≡◌ {A = ℕ} 0 1 = cc in omega arith)
 
-  pub read_within : (e : ℕ) → (read_table bytes).end ≡ At e → e ≤ length bytes
+  pub read_within : (e : ℕ) → (read_table bytes).end ≡ Some e → e ≤ length bytes
   read_within e = go (read_table bytes) read_sound
     where
-      go : (r : Reading) → Sound bytes r → r.end ≡ At e → e ≤ length bytes
+      go : (r : Reading) → Sound bytes r → r.end ≡ Some e → e ≤ length bytes
       go r (whole {e = e'} v h) q = let same : e' ≡ e = cc in rw (← same) h
       go r refused q = absurd (let z : ◌≡◌ {A = ℕ} 0 1 = cc in omega arith)

@@ -1,5 +1,6 @@
 -- What is left of a table that was read up to a place: one law for each way on from there.
 -- Assumes nothing.
+use Rattle.std.specs.Prelude.{Some, None}
 use mathlib.Core.Path.{◌≡◌, refl}
 use mathlib.Core.Bool.{true, false}
 use mathlib.Core.List.{List}
@@ -12,7 +13,7 @@ use Rattle.items.specs.Items.{item_of}
 use Rattle.reading.specs.Grammar.{room_for_file, room_for_field, add_file, add_field, broken, ended, proceed, read_from, read_table}
 use Rattle.definition.specs.declared.Definition.{Definition}
 use Rattle.definition.specs.declared.Field.{Field}
-use Rattle.items.specs.declared.Item.TheVariants.{File as item_file, Field as item_field, End as item_end, Broken as item_broken}
+use Rattle.items.specs.declared.Item.TheVariants.{File as item_file, Field as item_field, End as item_end}
 
 -- ---- reading goes on at `at` with d: enough fuel is left, and what comes of it is the whole reading
 pub record Pending (bytes : List ℕ) (at : ℕ) (d : Definition) : Type 0 where
@@ -49,13 +50,13 @@ module _ (bytes : List ℕ) (at : ℕ) (d : Definition) (p : Pending bytes at d)
       go (suc k) n e = record { fuel = k; enough = n; same = e }
 
   module _ (h : at < length bytes) where
-    pub at_broken : item_of (drop at bytes) ≡ item_broken → broken ≡ read_table bytes
+    pub at_broken : item_of (drop at bytes) ≡ None → broken ≡ read_table bytes
     at_broken i = rw i at (next h).same
 
-    pub at_end : item_of (drop at bytes) ≡ item_end → ended d (at + 1) ≡ read_table bytes
+    pub at_end : item_of (drop at bytes) ≡ Some item_end → ended d (at + 1) ≡ read_table bytes
     at_end i = rw i at (next h).same
 
-    module _ (n m : ℕ) (i : item_of (drop at bytes) ≡ item_file n m) where
+    module _ (n m : ℕ) (i : item_of (drop at bytes) ≡ Some (item_file n m)) where
       pub file_full : room_for_file d ≡ false → broken ≡ read_table bytes
       file_full r = rw (i, r) at (next h).same
 
@@ -65,7 +66,7 @@ module _ (bytes : List ℕ) (at : ℕ) (d : Definition) (p : Pending bytes at d)
       pub file_inside : at + 4 ≤ length bytes
       file_inside = omega (arith, rw i at (item_fits (drop at bytes)), length-drop at bytes)
 
-    module _ (f : Field) (i : item_of (drop at bytes) ≡ item_field f) where
+    module _ (f : Field) (i : item_of (drop at bytes) ≡ Some (item_field f)) where
       pub field_full : room_for_field d ≡ false → broken ≡ read_table bytes
       field_full r = rw (i, r) at (next h).same
 

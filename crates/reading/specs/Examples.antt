@@ -1,6 +1,6 @@
 -- Worked examples: the definitions computed on document 01's own table and on rows that break one rule each, checked by one law a table.
 -- Assumes nothing.
-use Rattle.std.specs.Prelude.{ℕ, ◌≡◌, refl, Bool, true, List, [], ◌∷◌, ◌++◌, map, eqb, set}
+use Rattle.std.specs.Prelude.{ℕ, ◌≡◌, refl, Bool, true, List, [], ◌∷◌, ◌++◌, map, eqb, set, Option, Some, None}
 use Rattle.lists.specs.Folds.{all}
 use Rattle.definition.specs.Table.{no_file, no_definition}
 use Rattle.records.specs.Records.{record_length}
@@ -11,15 +11,13 @@ use Rattle.items.specs.Items.{format_of, option_of, file_item, field_item, item_
 use Rattle.reading.specs.Grammar.{read_from, read_table}
 use Rattle.definition.specs.declared.Format.TheVariants.{Alphanumeric}
 use Rattle.definition.specs.declared.FieldOption.TheVariants.{Plain, Unique}
-use Rattle.reading.specs.declared.End.{End}
-use Rattle.reading.specs.declared.End.TheVariants.{At, Broken}
 
 -- "Table X'01010003 0252430141 55 0248480241 20 00' (RC unique, HH)"
 paper : List ℕ
 paper = 1 ∷ 1 ∷ 0 ∷ 3 ∷ 2 ∷ 82 ∷ 67 ∷ 1 ∷ 65 ∷ 85 ∷ 2 ∷ 72 ∷ 72 ∷ 2 ∷ 65 ∷ 32 ∷ 0 ∷ []
 
 paper_read : read_table paper ≡ record {
-  end = At 17;
+  end = Some 17;
   definition = record {
     count = 1;
     files = set no_definition.files 0 (record {
@@ -42,9 +40,9 @@ unfolding paper read_table read_from item_of file_item field_item format_of opti
 paper_size = refl
 
 -- ---- one rule after another: a row of bytes, and where it ends, or 0 where it is broken
-ends : End → ℕ
-ends (At e) = e
-ends Broken = 0
+ends : Option ℕ → ℕ
+ends (Some e) = e
+ends None = 0
 
 -- a field by its two characters, format, length and option
 named : ℕ → ℕ → ℕ → ℕ → ℕ → List ℕ

@@ -7,17 +7,10 @@ ghost use Rattle.reading.specs.Grammar.{room_for_file, room_for_field, add_file,
 use definition::{Definition, Field, MAX_FIELDS, MAX_FILES};
 use items::Item;
 
-// Where a table ends in the bytes that it was read from: the index after its last item.
-#[derive(Clone, Copy)]
-pub enum End {
-    At(usize),
-    Broken,
-}
-
 // A table that was read. Where it is broken the definition has no file.
 #[derive(Clone, Copy)]
 pub struct Reading {
-    pub end: End,
+    pub end: Option<usize>,
     pub definition: Definition,
 }
 
@@ -31,7 +24,7 @@ fn broken() -> Reading
 {
     let definition = definition::no_definition();
     Reading {
-        end: End::Broken,
+        end: None,
         definition,
     }
 }
@@ -86,8 +79,10 @@ pub fn read(bytes: &[u8]) -> Reading
     let mut d = definition::no_definition();
     let mut at = 0;
     while at < bytes.len() {
-        let next = items::first_item(&bytes[at..]);
-        match next {
+        let Some(item) = items::first_item(&bytes[at..]) else {
+            return broken();
+        };
+        match item {
             Item::File { number, max_isn } => {
                 if MAX_FILES <= d.count as usize {
                     return broken();
@@ -107,12 +102,9 @@ pub fn read(bytes: &[u8]) -> Reading
                     return broken();
                 }
                 return Reading {
-                    end: End::At(at + 1),
+                    end: Some(at + 1),
                     definition: d,
                 };
-            }
-            Item::Broken => {
-                return broken();
             }
         }
     }

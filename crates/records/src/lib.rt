@@ -7,13 +7,6 @@ ghost use Rattle.records.specs.Records.{field_length, field_offset, record_lengt
 
 use definition::{File, MAX_FIELDS};
 
-// A place that was sought: of a field in its file, or of a file in its table.
-#[derive(Clone, Copy)]
-pub enum Found {
-    At(usize),
-    Nowhere,
-}
-
 // The length of the field at a place; 0 where there is no such place.
 pub fn field_length(f: File, k: usize) -> usize
     ensures { result ≡ field_length (field_at f k) }

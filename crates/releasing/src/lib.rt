@@ -8,7 +8,6 @@ ghost use Rattle.shares.specs.Chains.{left_count, left_queue, left_images, gone}
 ghost use Rattle.shares.specs.Outcomes.{ri_done, ri_queue, ri_images};
 
 use nucleus::{Call, Response};
-use queue::Lookup;
 use removal::Removal;
 use shares::{Done, Share};
 
@@ -42,7 +41,7 @@ pub fn ri(call: Call, share: Share, queue: &mut [u64], images: &mut [u8], width:
         return dropped(call.isn, share, queue, images, width, which);
     }
     let found = queue::holder(queue, share.count, call.file, call.isn);
-    let Lookup::Held(_, entry) = found else {
+    let Some((_, entry)) = found else {
         return shares::refused(Response::NotHeld, share);
     };
     if entry.user != call.user {

@@ -9,7 +9,6 @@ ghost use Rattle.repeats.specs.Marks.{key, marked, set_mark, all_marked};
 ghost use Rattle.repeats.specs.Repeats.{repeated};
 
 use entries::Entry;
-use queue::Lookup;
 
 // A bit of a table of 4096 for each file and ISN. Some share one, so a bit that is set says only that it is worth looking; a table with a bit for each
 // would take longer to clear than most queues to pass.
@@ -42,7 +41,7 @@ fn held_before(queue: &[u64], count: usize, table: &[u64; 64], e: Entry) -> bool
     if !marked(table, key(e)) {
         return false;
     }
-    let Lookup::Held(_, _) = queue::holder(queue, count, e.file, e.isn) else {
+    let Some((_, _)) = queue::holder(queue, count, e.file, e.isn) else {
         return false;
     };
     true

@@ -1,16 +1,13 @@
 -- What the target of a reading says of the rows that L1 and L4 begin with, whatever rows come after.
 -- Assumes nothing.
-use Rattle.std.specs.Prelude.{ℕ, ◌≤◌, ◌≡◌, refl, true, length}
+use Rattle.std.specs.Prelude.{ℕ, ◌≤◌, ◌≡◌, refl, true, length, Option, Some, None, Ok, Err}
 use Rattle.std.proofs.Math.Path.{ap}
 use Rattle.std.proofs.Common.{◌∙◌}
 use mathlib.Core.List.{List, [], ◌∷◌, ◌++◌}
-use Rattle.std.proofs.Math.Option.{Option, none, some}
 use borrow.Author.Tests.{not-false}
 use Rattle.lists.specs.Tests.{not_both}
 use Rattle.definition.specs.declared.File.{File}
 use Rattle.elements.specs.Elements.{length_needed}
-use Rattle.search.specs.declared.Occupied.{Occupied}
-use Rattle.search.specs.declared.Occupied.TheVariants as occupied
 use Rattle.nucleus.specs.Target.{is_isn, isn_in}
 use Rattle.nucleus.specs.Rows.{Row, first_cause}
 use Rattle.nucleus.specs.declared.Call.{Call}
@@ -20,35 +17,34 @@ use Rattle.shares.proofs.Laws.{row_passed, last_passed}
 use Rattle.shares.specs.Chains.{rows_read, row_found, sought, sought_isn}
 use Rattle.formats.specs.Laws.{read_room}
 use Rattle.retrieval.specs.Retrieval.{target_unless, rows_target, read_target}
-use Rattle.retrieval.specs.declared.Target.TheVariants.{At, Refused}
 
 -- a target is the ISN where no cause refuses, and else the cause
 module _ (c : Option Response) (n : ℕ) where
-  unless_refused : (cause : Response) → target_unless c n ≡ Refused cause → c ≡ some cause
+  unless_refused : (cause : Response) → target_unless c n ≡ Err cause → c ≡ Some cause
   unless_refused cause e = go c e
     where
-      go : (x : Option Response) → target_unless x n ≡ Refused cause → x ≡ some cause
-      go (some d) h = cc
-      go none h = cc
+      go : (x : Option Response) → target_unless x n ≡ Err cause → x ≡ Some cause
+      go (Some d) h = cc
+      go None h = cc
 
-  unless_at : (isn : ℕ) → target_unless c n ≡ At isn → (c ≡ none) × (n ≡ isn)
+  unless_at : (isn : ℕ) → target_unless c n ≡ Ok isn → (c ≡ None) × (n ≡ isn)
   unless_at isn e = go c e
     where
-      go : (x : Option Response) → target_unless x n ≡ At isn → (x ≡ none) × (n ≡ isn)
-      go (some d) h = (cc, cc)
-      go none h = (refl, cc)
+      go : (x : Option Response) → target_unless x n ≡ Ok isn → (x ≡ None) × (n ≡ isn)
+      go (Some d) h = (cc, cc)
+      go None h = (refl, cc)
 
-isn_there : (x : Occupied) → is_isn x ≡ true → x ≡ occupied.At (isn_in x)
-isn_there (occupied.At isn) h = refl
-isn_there occupied.Nowhere h = not_both _ h refl
+isn_there : (x : Option ℕ) → is_isn x ≡ true → x ≡ Some (isn_in x)
+isn_there (Some isn) h = refl
+isn_there None h = not_both _ h refl
 
 module _ (call : Call) (f : File) (part format buffer : List ℕ) where
-  pub target_refused : (cause : Response) → read_target call f part format buffer ≡ Refused cause → (later : List Row) → first_cause (rows_target call f part format buffer ++ later) ≡ some cause
+  pub target_refused : (cause : Response) → read_target call f part format buffer ≡ Err cause → (later : List Row) → first_cause (rows_target call f part format buffer ++ later) ≡ Some cause
   unfolding read_target
   target_refused cause e later = causes_refused (rows_target call f part format buffer) later cause (unless_refused (first_cause (rows_target call f part format buffer)) (sought_isn call f part) cause e)
 
-  module _ (isn : ℕ) (e : read_target call f part format buffer ≡ At isn) where
-    target_passed : first_cause (rows_target call f part format buffer) ≡ none
+  module _ (isn : ℕ) (e : read_target call f part format buffer ≡ Ok isn) where
+    target_passed : first_cause (rows_target call f part format buffer) ≡ None
     unfolding read_target
     target_passed = (unless_at (first_cause (rows_target call f part format buffer)) (sought_isn call f part) isn e).0
 
@@ -56,11 +52,11 @@ module _ (call : Call) (f : File) (part format buffer : List ℕ) where
     target_later later = causes_passed (rows_target call f part format buffer) later target_passed
 
     -- it was found
-    pub target_sought : sought call f part ≡ occupied.At isn
+    pub target_sought : sought call f part ≡ Some isn
     unfolding read_target
     target_sought =
         let found = not-false (is_isn (sought call f part)) (row_passed (row_found call f part) [] (last_passed (rows_read f format buffer) (row_found call f part ∷ []) target_passed)) in
-        isn_there (sought call f part) found ∙ ap occupied.At (unless_at (first_cause (rows_target call f part format buffer)) (sought_isn call f part) isn e).1
+        isn_there (sought call f part) found ∙ ap Some (unless_at (first_cause (rows_target call f part format buffer)) (sought_isn call f part) isn e).1
 
     -- and the record buffer has room
     pub target_room : length_needed f format ≤ length buffer

@@ -15,39 +15,31 @@ ghost use Rattle.retrieval.specs.Retrieval.{read_target};
 use committed::Version;
 use definition::File;
 use nucleus::{AT_OR_ABOVE, COMMITTED, Call, Response};
-use search::Occupied;
-use shares::{Done, Share, Verdict};
-
-// The ISN to read, or the cause that refuses it.
-#[derive(Clone, Copy)]
-enum Target {
-    At(u16),
-    Refused(Response),
-}
+use shares::{Done, Share};
 
 // The ISN to read: the given one, or with option `I` the lowest at or above it that has a record.
-fn sought(call: Call, f: File, part: &[u8]) -> Occupied
+fn sought(call: Call, f: File, part: &[u8]) -> Option<u16>
     ensures { result ≡ sought call f part.now }
 {
     if call.option == AT_OR_ABOVE {
         return search::lowest(f, part, call.isn);
     }
-    Occupied::At(call.isn)
+    Some(call.isn)
 }
 
 // 41, 53 and 3, and the ISN to read.
-fn read_target(call: Call, f: File, part: &[u8], format: &[u8], buffer: &[u8]) -> Target
+fn read_target(call: Call, f: File, part: &[u8], format: &[u8], buffer: &[u8]) -> Result<u16, Response>
     ensures { result ≡ read_target call f part.now format.now buffer.now }
 {
     let readable = formats::readable(f, format, buffer);
-    if let Verdict::Refused(cause) = readable {
-        return Target::Refused(cause);
+    if let Err(cause) = readable {
+        return Err(cause);
     }
     let found = sought(call, f, part);
-    let Occupied::At(isn) = found else {
-        return Target::Refused(Response::NotFound);
+    let Some(isn) = found else {
+        return Err(Response::NotFound);
     };
-    Target::At(isn)
+    Ok(isn)
 }
 
 // Writes the named fields of a record at the front of the record buffer and answers how many bytes those are.
@@ -87,8 +79,8 @@ pub fn l1<'a>(
 {
     let target = read_target(call, f, part, format, buffer);
     let isn = match target {
-        Target::At(isn) => isn,
-        Target::Refused(cause) => return shares::refused(cause, share),
+        Ok(isn) => isn,
+        Err(cause) => return shares::refused(cause, share),
     };
     let version = version_at(call, share, queue, isn);
     if !committed::version_there(f, part, images, width, version, isn) {
@@ -108,15 +100,15 @@ fn holdable(
     part: &[u8],
     queue: &[u64],
     isn: u16,
-) -> Verdict
+) -> Result<(), Response>
     ensures { result ≡ verdict (first_cause (row_waits call share queue.now isn ∷ row_other call share queue.now isn ∷ row_there f part.now isn ∷ rows_room call share queue.now most isn)) }
 {
     let others = hold_rows::others(call, share, queue, isn);
-    if let Verdict::Refused(cause) = others {
-        return Verdict::Refused(cause);
+    if let Err(cause) = others {
+        return Err(cause);
     }
     if !store::has_record(f, part, isn) {
-        return Verdict::Refused(Response::Presence);
+        return Err(Response::Presence);
     }
     hold_rows::room(call, share, queue, most, isn)
 }
@@ -139,11 +131,11 @@ pub fn l4(
 {
     let target = read_target(call, f, part, format, buffer);
     let isn = match target {
-        Target::At(isn) => isn,
-        Target::Refused(cause) => return shares::refused(cause, share),
+        Ok(isn) => isn,
+        Err(cause) => return shares::refused(cause, share),
     };
     let verdict = holdable(call, most, share, f, part, queue, isn);
-    if let Verdict::Refused(cause) = verdict {
+    if let Err(cause) = verdict {
         return shares::refused(cause, share);
     }
     // A record is there.

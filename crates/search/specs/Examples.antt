@@ -1,19 +1,17 @@
 -- Worked examples: the definitions computed on the file and part of the store's examples.
 -- Assumes nothing.
-use Rattle.std.specs.Prelude.{ℕ, ◌≡◌, refl, Bool, true, false, List, [], ◌∷◌}
+use Rattle.std.specs.Prelude.{ℕ, ◌≡◌, refl, Bool, true, false, List, [], ◌∷◌, Option, Some, None}
 use Rattle.lists.specs.Folds.{all}
 use Rattle.records.specs.Records.{field_offset, record_length}
 use Rattle.lists.specs.Tests.{eqbs}
 use Rattle.store.specs.Store.{slot_fits, has_record, fresh}
 use Rattle.search.specs.Search.{lowest, elsewhere}
-use Rattle.search.specs.declared.Occupied.{Occupied}
-use Rattle.search.specs.declared.Occupied.TheVariants.{At, Nowhere}
 use Rattle.store.specs.Examples.{paper, part}
 
 -- ---- what is found, as numbers
-at : Occupied → List ℕ
-at (At n) = n ∷ []
-at Nowhere = []
+at : Option ℕ → List ℕ
+at (Some n) = n ∷ []
+at None = []
 
 truth : Bool → List ℕ
 truth true = 1 ∷ []

@@ -1,10 +1,9 @@
 -- Laws of what is found in a file's part: the lowest record from an ISN on, and a value elsewhere.
 -- Assumes nothing.
-use Rattle.std.specs.Prelude.{ℕ, zero, suc, ◌+◌, ◌-◌, ◌≤◌, ◌<◌, ◌≡◌, Bool, not, ◌&&◌, List, eqb, ltb, leb, length}
+use Rattle.std.specs.Prelude.{ℕ, zero, suc, ◌+◌, ◌-◌, ◌≤◌, ◌<◌, ◌≡◌, Bool, not, ◌&&◌, List, eqb, ltb, leb, length, Some, None}
 use Rattle.std.proofs.Common.{arith, ◌∙◌}
 use Rattle.std.proofs.Math.Path.{ap}
 use Rattle.std.proofs.Math.Bool.{true, false}
-use Rattle.std.proofs.Math.Option.{some}
 use borrow.Author.Tests.{ltb-true, ltb-false, leb-true, leb-false, lt-ltb, eqb-false, ne_eqb, not-true}
 use Rattle.lists.specs.Tests.{within_above, within_most, Outcome, holds, fails, outcome, not_both, and_left, and_right, or_left, or_right, eqbs, eqbs_true, eqbs_self}
 use Rattle.lists.specs.Folds.{any, any_true}
@@ -15,7 +14,6 @@ use Rattle.search.specs.Search.{first_of, has_value, lowest, elsewhere}
 use Rattle.store.specs.Store.{slot_count, isns_from, has_record, record_of, get, field_value}
 use Rattle.store.specs.Slots.{slot_fits_is, has_record_is}
 use Rattle.store.proofs.Laws.{has_fits, fits_most, fits_least, get_some, some_has, some_record}
-use Rattle.search.specs.declared.Occupied.TheVariants.{At, Nowhere}
 
 -- ---- the first of some numbers that passes
 module _ (p : ℕ → Bool) where
@@ -23,11 +21,11 @@ module _ (p : ℕ → Bool) where
   abbrev First : ℕ → ℕ → Type 0
   First k n = (k ≤ n) × (p n ≡ true) × ((m : ℕ) → k ≤ m → m < n → p m ≡ false)
 
-  first_found : (c k n : ℕ) → first_of p (numbers c k) ≡ At n → First k n
+  first_found : (c k n : ℕ) → first_of p (numbers c k) ≡ Some n → First k n
   first_found zero k n e = absurd (let z : ◌≡◌ {A = ℕ} 0 1 = cc in omega arith)
   first_found (suc c) k n e = go (outcome (p k)) (first_found c (k + 1) n)
     where
-      go : Outcome (p k) → (first_of p (numbers c (k + 1)) ≡ At n → First (k + 1) n) → First k n
+      go : Outcome (p k) → (first_of p (numbers c (k + 1)) ≡ Some n → First (k + 1) n) → First k n
       go (holds h) later =
           let here : k ≡ n = cc (rw h at e) in
           (omega arith, rw (← here) h, λ m a b. absurd (omega arith))
@@ -42,11 +40,11 @@ module _ (p : ℕ → Bool) where
               step (holds t) = up (omega (arith, ltb-true k m t)) b
               step (fails t) = let same : m ≡ k = omega (arith, ltb-false k m t) in rw same h
 
-  first_none : (c k : ℕ) → first_of p (numbers c k) ≡ Nowhere → (m : ℕ) → k ≤ m → m < k + c → p m ≡ false
+  first_none : (c k : ℕ) → first_of p (numbers c k) ≡ None → (m : ℕ) → k ≤ m → m < k + c → p m ≡ false
   first_none zero k e m a b = absurd (omega arith)
   first_none (suc c) k e m a b = go (outcome (p k)) (outcome (ltb k m)) (first_none c (k + 1))
     where
-      go : Outcome (p k) → Outcome (ltb k m) → (first_of p (numbers c (k + 1)) ≡ Nowhere → (m : ℕ) → k + 1 ≤ m → m < k + 1 + c → p m ≡ false) → p m ≡ false
+      go : Outcome (p k) → Outcome (ltb k m) → (first_of p (numbers c (k + 1)) ≡ None → (m : ℕ) → k + 1 ≤ m → m < k + 1 + c → p m ≡ false) → p m ≡ false
       go (holds h) t later = absurd (let z : ◌≡◌ {A = ℕ} 0 1 = cc (rw h at e) in omega arith)
       go (fails h) (holds t) later = later (rw h at e) m (omega (arith, ltb-true k m t)) (omega arith)
       go (fails h) (fails t) later = let same : m ≡ k = omega (arith, ltb-false k m t) in rw same h
@@ -69,14 +67,14 @@ pub record Lowest (f : File) (part : List ℕ) (from n : ℕ) : Type 0 where
   pub between : (m : ℕ) → from ≤ m → m < n → has_record f part m ≡ false
 
 module _ (f : File) (part : List ℕ) (from : ℕ) where
-  pub lowest_found : (n : ℕ) → lowest f part from ≡ At n → Lowest f part from n
+  pub lowest_found : (n : ℕ) → lowest f part from ≡ Some n → Lowest f part from n
   unfolding lowest
   lowest_found n e =
       let r = first_found (has_record f part) (slot_count f (length part) + 1 - from) from n e in
       let fits = has_fits f part n r.1 in
       record { above = r.0; least = fits_least f part n fits; most = fits_most f part n fits; there = r.1; between = r.2 }
 
-  pub lowest_none : lowest f part from ≡ Nowhere → (m : ℕ) → from ≤ m → has_record f part m ≡ false
+  pub lowest_none : lowest f part from ≡ None → (m : ℕ) → from ≤ m → has_record f part m ≡ false
   unfolding lowest
   lowest_none e m a = go (outcome (leb m (slot_count f (length part))))
     where
@@ -90,7 +88,7 @@ pub record Elsewhere (f : File) (part : List ℕ) (k isn : ℕ) (value : List �
   pub other : ℕ
   pub bytes : List ℕ
   pub apart : other ≡ isn → ⊥
-  pub there : get f part other ≡ some bytes
+  pub there : get f part other ≡ Some bytes
   pub has : field_value f k bytes ≡ value
 
 module _ (f : File) (part : List ℕ) (k isn : ℕ) (value : List ℕ) where

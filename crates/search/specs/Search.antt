@@ -1,18 +1,16 @@
 -- What is sought in the part of the store that belongs to one file.
-use Rattle.std.specs.Prelude.{ℕ, ◌+◌, ◌-◌, ◌*◌, Bool, not, ◌&&◌, List, [], ◌∷◌, eqb, ltb, length, get_or}
+use Rattle.std.specs.Prelude.{ℕ, ◌+◌, ◌-◌, ◌*◌, Bool, not, ◌&&◌, List, [], ◌∷◌, eqb, ltb, length, get_or, Option, Some, None}
 use Rattle.lists.specs.Tests.{cond, eqbs}
 use Rattle.lists.specs.Folds.{any}
 use Rattle.definition.specs.Table.{field_count}
 use Rattle.definition.specs.declared.File.{File}
 use Rattle.lists.specs.Pieces.{piece}
-use Rattle.search.specs.declared.Occupied.{Occupied}
-use Rattle.search.specs.declared.Occupied.TheVariants.{At, Nowhere}
 use Rattle.store.specs.Store.{recorded, isns_from, has_record, record_of, field_value}
 
 -- the first of the ISNs that passes the test
-abbrev pub first_of : (ℕ → Bool) → List ℕ → Occupied
-first_of p [] = Nowhere
-first_of p (isn ∷ isns) = cond (p isn) (At isn) (first_of p isns)
+abbrev pub first_of : (ℕ → Bool) → List ℕ → Option ℕ
+first_of p [] = None
+first_of p (isn ∷ isns) = cond (p isn) (Some isn) (first_of p isns)
 
 -- whether the slot that begins at a place has a record with the value at an offset
 abbrev pub has_field : List ℕ → ℕ → ℕ → List ℕ → Bool
@@ -24,7 +22,7 @@ held last size part isn offset value other =
     not (eqb other isn) && (recorded last size part other && eqbs (piece ((other - 1) * size + 1 + offset) (length value) part) value)
 
 -- option `I`: "the lowest ISN at or above the given one that has a record"
-unfoldable pub lowest : File → List ℕ → ℕ → Occupied
+unfoldable pub lowest : File → List ℕ → ℕ → Option ℕ
 lowest f part from = first_of (has_record f part) (isns_from f part from)
 
 -- "another record of the file has it in that field": a record at an ISN other than the given one has the value in the field at place k

@@ -9,15 +9,8 @@ ghost use Rattle.search.specs.Search.{first_of, held, has_field, lowest, elsewhe
 
 use definition::File;
 
-// The ISN of a record that was sought.
-#[derive(Clone, Copy)]
-pub enum Occupied {
-    At(u16),
-    Nowhere,
-}
-
 // The first slot with a record, of those from `from` to `last`.
-fn first_record(part: &[u8], size: usize, from: usize, last: usize) -> Occupied
+fn first_record(part: &[u8], size: usize, from: usize, last: usize) -> Option<u16>
     requires le_size { 1 ≤ size }
     requires le_from { 1 ≤ from }
     requires last_bound { last < 65536 }
@@ -25,22 +18,22 @@ fn first_record(part: &[u8], size: usize, from: usize, last: usize) -> Occupied
     ensures { result ≡ first_of (recorded last size part.now) (from_to from last) }
 {
     if last < from {
-        return Occupied::Nowhere;
+        return None;
     }
     let mut at = (from - 1) * size;
     let mut isn = from;
     while isn <= last {
         if part[at] == 1 {
-            return Occupied::At(isn as u16);
+            return Some(isn as u16);
         }
         at += size;
         isn += 1;
     }
-    Occupied::Nowhere
+    None
 }
 
 // The lowest ISN at or above `from` that has a record (option `I`).
-pub fn lowest(f: File, part: &[u8], from: u16) -> Occupied
+pub fn lowest(f: File, part: &[u8], from: u16) -> Option<u16>
     ensures { result ≡ lowest f part.now from }
 {
     let size = records::slot_length(f);

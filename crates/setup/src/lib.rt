@@ -12,7 +12,6 @@ ghost use Rattle.setup.specs.SetUp.{made, set_up_to};
 
 use definition::{Definition, MAX_FILES};
 use nucleus::{EtData, MAX_ET_DATA, MAX_USERS, Response, State, WaitQueue};
-use reading::End;
 
 // What set-up answers, and the state that it gives. Where it refuses, the state has no table, so that every call on it answers 12.
 #[derive(Clone, Copy)]
@@ -99,7 +98,7 @@ pub fn set_up_for(
 {
     let read = reading::read(table);
     let end = read.end;
-    let End::At(at) = end else {
+    let Some(at) = end else {
         return refused(Response::DefinitionInvalid);
     };
     if at != table.len() {

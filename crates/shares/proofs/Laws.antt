@@ -1,9 +1,8 @@
 -- What `perform` comes to, over shares: a share put back, and a command as the cause that refuses it, if any, beside its effect. The laws of the
 -- commands are in LawsHolding.antt and after.
 -- Assumes nothing.
-use Rattle.std.specs.Prelude.{ℕ, ◌-◌, ◌≡◌, refl, false, List, [], ◌∷◌, ◌++◌}
+use Rattle.std.specs.Prelude.{ℕ, ◌-◌, ◌≡◌, refl, false, List, [], ◌∷◌, ◌++◌, Option, Some, None}
 use Rattle.std.proofs.Common.{sym, ap, ◌∙◌, set-set}
-use Rattle.std.proofs.Math.Option.{Option, none, some}
 use Rattle.std.proofs.Math.ListN.{set}
 use Rattle.std.proofs.lemmas.List.{set-get_or}
 use Rattle.lists.specs.Tests.{Outcome, holds, fails, outcome}
@@ -11,8 +10,6 @@ use Rattle.definition.specs.declared.Definition.{Definition}
 use Rattle.layout.specs.Layout.{place}
 use Rattle.store.specs.Store.{file_part, with_part}
 use Rattle.store.specs.Files.{part_own}
-use Rattle.records.specs.declared.Found.{Found}
-use Rattle.records.specs.declared.Found.TheVariants.{At, Nowhere}
 use Rattle.nucleus.specs.Responses.{refused}
 use Rattle.nucleus.specs.Users.{fresh_user}
 use Rattle.nucleus.specs.Nucleus.{Nucleus, nucleus, Request, Result, resulting, beyond_data, with_user, with_data, with_last_assigned, with_count}
@@ -44,9 +41,9 @@ module _ (call : Call) (s : State) where
   assigned_kept : assigned_with s.last_assigned (place s.definition call.file) x.last_assigned ≡ s.last_assigned
   assigned_kept = go (place s.definition call.file)
     where
-      go : (at : Found) → assigned_with s.last_assigned at (assigned_in s.last_assigned at) ≡ s.last_assigned
-      go (At i) = set-get_or s.last_assigned i 0
-      go Nowhere = refl
+      go : (at : Option ℕ) → assigned_with s.last_assigned at (assigned_in s.last_assigned at) ≡ s.last_assigned
+      go (Some i) = set-get_or s.last_assigned i 0
+      go None = refl
 
   -- whose user, ET data and count changed
   pub share_back : (user : User) (held : EtData) (count : ℕ) → with_share call (share user held x.last_assigned count x.waits) s ≡ with_user u user (with_data u held (with_count count s))
@@ -96,7 +93,7 @@ module _ (call : Call) (s : State) where
   share_kept = count_back s.count
 
   -- with the ISN that N1 gave
-  pub assigned_back : (i : ℕ) → place s.definition call.file ≡ At i → (y : Share) (isn : ℕ) → with_share call (share_with_assigned isn y) s ≡ with_last_assigned i isn (with_share call y s)
+  pub assigned_back : (i : ℕ) → place s.definition call.file ≡ Some i → (y : Share) (isn : ℕ) → with_share call (share_with_assigned isn y) s ≡ with_last_assigned i isn (with_share call y s)
   unfolding with_share
   assigned_back i there y isn =
       let e : assigned_with s.last_assigned (place s.definition call.file) isn
@@ -117,32 +114,32 @@ pub on_state : {s t : State} {store queue images : List ℕ} → t ≡ s → nuc
 on_state {store = store} {queue = queue} {images = images} e = ap (λ s. nucleus s store queue images) (sym e)
 
 -- ---- rows that all fail: so do the last of them
-pub last_passed : (xs ys : List Row) → first_cause (xs ++ ys) ≡ none → first_cause ys ≡ none
+pub last_passed : (xs ys : List Row) → first_cause (xs ++ ys) ≡ None → first_cause ys ≡ None
 last_passed [] ys e = e
 last_passed (r ∷ xs) ys e = go (outcome r.holds) (last_passed xs ys)
   where
-    go : Outcome r.holds → (first_cause (xs ++ ys) ≡ none → first_cause ys ≡ none) → first_cause ys ≡ none
-    go (holds t) later = let bad : some r.cause ≡ none = rw t at e in cc
+    go : Outcome r.holds → (first_cause (xs ++ ys) ≡ None → first_cause ys ≡ None) → first_cause ys ≡ None
+    go (holds t) later = let bad : Some r.cause ≡ None = rw t at e in cc
     go (fails t) later = later (rw t at e)
 
-pub row_passed : (r : Row) (rows : List Row) → first_cause (r ∷ rows) ≡ none → r.holds ≡ false
+pub row_passed : (r : Row) (rows : List Row) → first_cause (r ∷ rows) ≡ None → r.holds ≡ false
 row_passed r rows e = go (outcome r.holds)
   where
     go : Outcome r.holds → r.holds ≡ false
-    go (holds t) = let bad : some r.cause ≡ none = rw t at e in cc
+    go (holds t) = let bad : Some r.cause ≡ None = rw t at e in cc
     go (fails t) = t
 
 -- ---- a command
 -- what a command does not change, whether it is refused or not
 pub kept_same : {A : Type 0} (c : Option Response) (old : A) → kept_by c old old ≡ old
-kept_same (some cause) old = refl
-kept_same none old = refl
+kept_same (Some cause) old = refl
+kept_same None old = refl
 
 -- a file's part that is kept where a cause refuses: so is the store
 pub part_kept : (d : Definition) (i : ℕ) (store : List ℕ) (cause : Option Response) (new : List ℕ)
     → with_part d i store (kept_by cause (file_part d i store) new) ≡ kept_by cause store (with_part d i store new)
-part_kept d i store (some cause) new = part_own d i store
-part_kept d i store none new = refl
+part_kept d i store (Some cause) new = part_own d i store
+part_kept d i store None new = refl
 
 module _ (call : Call) (n : Nucleus) where
   -- what a call leaves that changes nothing
@@ -152,8 +149,8 @@ module _ (call : Call) (n : Nucleus) where
   -- refused with a cause, or the effect: parts that a refused call leaves are as they were
   pub performed_as : (r : Request) (c : Option Response) (d : Done) (store queue images after : List ℕ)
       → first_cause (rows_last r n) ≡ c
-      → (c ≡ none → effect r n ≡ result_on call n d store queue images after)
+      → (c ≡ None → effect r n ≡ result_on call n d store queue images after)
       → perform r n ≡ result_on call n (done_unless c (share_of call n.state) d) (kept_by c n.store store) (kept_by c n.queue queue) (kept_by c n.images images) (kept_by c r.buffer after)
   unfolding perform
-  performed_as r (some cause) d store queue images after e f = rw e (ap (λ m. resulting (refused cause) m r.buffer) nothing_done)
-  performed_as r none d store queue images after e f = rw e (f refl)
+  performed_as r (Some cause) d store queue images after e f = rw e (ap (λ m. resulting (refused cause) m r.buffer) nothing_done)
+  performed_as r None d store queue images after e f = rw e (f refl)

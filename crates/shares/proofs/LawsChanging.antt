@@ -1,11 +1,11 @@
 -- A1, E1, N1 and N2: what `perform` does, over the caller's share and the part of the call's file.
 -- Assumes nothing.
-use Rattle.std.specs.Prelude.{ℕ, ◌+◌, ◌≤◌, ◌≡◌, Bool, ◌&&◌, length}
+use Rattle.std.specs.Prelude.{ℕ, ◌+◌, ◌≤◌, ◌≡◌, Bool, ◌&&◌, length, Option, Some, None}
+use Rattle.entries.specs.declared.Entry.{Entry}
 use Rattle.std.proofs.Math.Path.{refl, ap}
 use Rattle.std.proofs.Common.{◌∙◌}
 use Rattle.std.proofs.Math.Bool.{true, false, not, or-false}
 use mathlib.Core.List.{List, [], ◌∷◌, ◌++◌}
-use Rattle.std.proofs.Math.Option.{Option, none}
 use borrow.Author.Tests.{le-ltb, not-true}
 use Rattle.lists.specs.Tests.{within, Outcome, holds, fails, outcome, not_both, and_right}
 use Rattle.lists.specs.Folds.{any}
@@ -17,13 +17,8 @@ use Rattle.definition.specs.declared.File.{File}
 use Rattle.layout.specs.Layout.{place, file_found}
 use Rattle.records.specs.Records.{record_length}
 use Rattle.store.specs.Store.{has_record, record_of, file_part, with_part, put_record, empty}
-use Rattle.records.specs.declared.Found.TheVariants as found_at
 use Rattle.queue.specs.Laws.{is_held, held_any}
-use Rattle.queue.specs.declared.Lookup.{Lookup}
-use Rattle.queue.specs.declared.Lookup.TheVariants.{Held, Free}
 use Rattle.search.specs.Search.{first_of}
-use Rattle.search.specs.declared.Occupied.{Occupied}
-use Rattle.search.specs.declared.Occupied.TheVariants.{At, Nowhere}
 use Rattle.committed.specs.Committed.{version_there}
 use Rattle.nucleus.specs.Responses.{good}
 use Rattle.nucleus.specs.Nucleus.{Nucleus, nucleus, Request, request, resulting, entries_of, width_of}
@@ -44,24 +39,24 @@ use Rattle.shares.proofs.LawsHolding.{Room, room_left, held_on, held_is}
 use Rattle.shares.specs.declared.Share.{Share}
 
 -- ---- the ISN that N1 finds has no holder
-first_passes : (p : ℕ → Bool) (l : List ℕ) (isn : ℕ) → first_of p l ≡ At isn → p isn ≡ true
+first_passes : (p : ℕ → Bool) (l : List ℕ) (isn : ℕ) → first_of p l ≡ Some isn → p isn ≡ true
 first_passes p [] isn e = cc
 first_passes p (k ∷ l) isn e = go (outcome (p k)) (first_passes p l isn)
   where
-    go : Outcome (p k) → (first_of p l ≡ At isn → p isn ≡ true) → p isn ≡ true
+    go : Outcome (p k) → (first_of p l ≡ Some isn → p isn ≡ true) → p isn ≡ true
     go (holds t) later = let here : k ≡ isn = cc (rw t at e) in rw (← here) t
     go (fails t) later = later (rw t at e)
 
-nobodys : (l : Lookup) → is_held l ≡ false → l ≡ Free
-nobodys (Held i e) h = not_both true refl h
-nobodys Free h = refl
+nobodys : (l : Option (ℕ × Entry)) → is_held l ≡ false → l ≡ None
+nobodys (Some (i, e)) h = not_both true refl h
+nobodys None h = refl
 
-free_holder : (f : File) (p : List ℕ) (call : Call) (x : Share) (queue : List ℕ) (isn : ℕ) → free_isn f p call x queue ≡ At isn → holder_at call x queue isn ≡ Free
+free_holder : (f : File) (p : List ℕ) (call : Call) (x : Share) (queue : List ℕ) (isn : ℕ) → free_isn f p call x queue ≡ Some isn → holder_at call x queue isn ≡ None
 unfolding free_isn
 free_holder f p call x queue isn e =
     let free = first_passes (is_free f p call x queue) (from_to (x.last_assigned + 1) f.max_isn ++ from_to 1 x.last_assigned) isn e in
-    let none = not-true _ (and_right (not (has_record f p isn)) _ free) in
-    nobodys (holder_at call x queue isn) (held_any call.file isn (in_use call x queue) ∙ none)
+    let None = not-true _ (and_right (not (has_record f p isn)) _ free) in
+    nobodys (holder_at call x queue isn) (held_any call.file isn (in_use call x queue) ∙ None)
 
 module _ (capacity : ℕ) (call : Call) (format buffer : List ℕ) (n : Nucleus) where
   abbrev x : Share
@@ -85,13 +80,13 @@ module _ (capacity : ℕ) (call : Call) (format buffer : List ℕ) (n : Nucleus)
     unfolding imaged imaged_queue imaged_images with_share
     imaged_is = ap (λ k. imaged_at r (holder_of r k isn) isn k) (held_is capacity call format buffer n c isn room) ∙ go (holder_of r m isn)
       where
-        go : (l : Lookup) → imaged_at r l isn m
+        go : (l : Option (ℕ × Entry)) → imaged_at r l isn m
             ≡ nucleus m.state n.store (queue_imaged call x n.queue l m.queue (record_at r n isn))
             (images_with call x n.queue l m.queue (record_at r n isn) (width_of n) (record_of (file r n) (part r n) isn) n.images)
-        go (Held k e) = refl
-        go Free = refl
+        go (Some (k, e)) = refl
+        go None = refl
 
-  module _ (i : ℕ) (there : place n.state.definition call.file ≡ found_at.At i) where
+  module _ (i : ℕ) (there : place n.state.definition call.file ≡ Some i) where
     abbrev d : Definition
     d = n.state.definition
 
@@ -121,7 +116,7 @@ module _ (capacity : ℕ) (call : Call) (format buffer : List ℕ) (n : Nucleus)
     row_taken named isn content = row ValueTaken (taken f p call x n.queue n.images (width_of n) named format isn content)
 
     room_brought : (isn : ℕ) (rows : List Row) (named : Bool) (content : List ℕ) → capacity ≤ length n.queue
-        → first_cause (row_scratch f ∷ rows_brought f format buffer ++ (rows ++ (rows_room call x n.queue capacity isn ++ row_taken named isn content ∷ []))) ≡ none
+        → first_cause (row_scratch f ∷ rows_brought f format buffer ++ (rows ++ (rows_room call x n.queue capacity isn ++ row_taken named isn content ∷ []))) ≡ None
         → Room capacity call format buffer n isn
     room_brought isn rows named content long passed =
         room_left capacity call format buffer n isn (row_scratch f ∷ rows_brought f format buffer ++ rows) (row_taken named isn content ∷ []) long passed
@@ -137,7 +132,7 @@ module _ (capacity : ℕ) (call : Call) (format buffer : List ℕ) (n : Nucleus)
       -- one that changes the file's part, by its cause and its effect
       performed_by : (c : Command) (cause : Option Response) (new : List ℕ)
           → first_cause (rows_last (request capacity c call format buffer) n) ≡ cause
-          → (cause ≡ none → Room capacity call format buffer n call.isn)
+          → (cause ≡ None → Room capacity call format buffer n call.isn)
           → (effect (request capacity c call format buffer) n ≡ resulting (good call.isn 0 0) (with_part_of (request capacity c call format buffer) new (imaged (request capacity c call format buffer) call.isn n)) buffer)
           → Performed c cause new
       performed_by c cause new e room made =
@@ -185,7 +180,7 @@ module _ (capacity : ℕ) (call : Call) (format buffer : List ℕ) (n : Nucleus)
             (rw there)
 
     -- ---- N1: at the ISN that it finds
-    abbrev free : Occupied
+    abbrev free : Option ℕ
     free = free_isn f p call x n.queue
 
     free_target : target (request capacity N1 call format buffer) n ≡ free
@@ -199,7 +194,7 @@ module _ (capacity : ℕ) (call : Call) (format buffer : List ℕ) (n : Nucleus)
     -- the effect at an ISN
     n1_made : (isn : ℕ) → effect_at (request capacity N1 call format buffer) isn N1 n
         ≡ resulting (good isn 0 0)
-        (with_last (request capacity N1 call format buffer) (found_at.At i) isn
+        (with_last (request capacity N1 call format buffer) (Some i) isn
         (with_part_of (request capacity N1 call format buffer) (put_record f p isn (added f p format buffer isn)) (imaged (request capacity N1 call format buffer) isn n)))
         buffer
     unfolding effect_at written new_record added
@@ -213,11 +208,11 @@ module _ (capacity : ℕ) (call : Call) (format buffer : List ℕ) (n : Nucleus)
       unfolding n1_cause added taken new_record file_unknown isn_invalid format_refused field_twice record_length_refused value_refused none_found held_elsewhere waits presence_refused not_held release_refused file_full limit_reached queue_full value_taken
       n1_cause_is = go free refl
         where
-          go : (o : Occupied) → free ≡ o → first_cause (rows_last (request capacity N1 call format buffer) n) ≡ n1_refused
-          go (At isn) e = rw (free_target, e, free_holder f p call x n.queue isn e, there, le-ltb max_scratch (record_length f) small) (simp or-false)
-          go Nowhere e = rw (free_target, e, there, le-ltb max_scratch (record_length f) small) (simp or-false)
+          go : (o : Option ℕ) → free ≡ o → first_cause (rows_last (request capacity N1 call format buffer) n) ≡ n1_refused
+          go (Some isn) e = rw (free_target, e, free_holder f p call x n.queue isn e, there, le-ltb max_scratch (record_length f) small) (simp or-false)
+          go None e = rw (free_target, e, there, le-ltb max_scratch (record_length f) small) (simp or-false)
 
-      n1_room : n1_refused ≡ none → Room capacity call format buffer n (isn_in free)
+      n1_room : n1_refused ≡ None → Room capacity call format buffer n (isn_in free)
       unfolding n1_cause
       n1_room passed = room_brought (isn_in free) (row FileFull (not (is_isn free)) ∷ []) false (added f p format buffer (isn_in free)) long passed
 
@@ -232,5 +227,5 @@ module _ (capacity : ℕ) (call : Call) (format buffer : List ℕ) (n : Nucleus)
           rw (kept_same n1_refused buffer) at
           (performed_as call n (request capacity N1 call format buffer) n1_refused _ _ _ _ buffer n1_cause_is
           (λ passed. ap (λ o. effect_at r (isn_in o) N1 n) free_target ∙ n1_made isn
-          ∙ ap (λ k. resulting (good isn 0 0) (with_last r (found_at.At i) isn k) buffer) (changed_is isn (n1_room passed) N1 (put_record f p isn (added f p format buffer isn)))
+          ∙ ap (λ k. resulting (good isn 0 0) (with_last r (Some i) isn k) buffer) (changed_is isn (n1_room passed) N1 (put_record f p isn (added f p format buffer isn)))
           ∙ ap (λ k. resulting (good isn 0 0) k buffer) (on_state (assigned_back call n.state i there (held_share call x n.queue n.state.clock isn) isn))))

@@ -1,9 +1,8 @@
 -- ET, BT, RE, OP, CL and PE: what `perform` does, over the caller's share. They are about no file.
 -- Assumes nothing.
-use Rattle.std.specs.Prelude.{ℕ, ◌≡◌, List}
+use Rattle.std.specs.Prelude.{ℕ, ◌≡◌, List, None}
 use Rattle.std.proofs.Math.Path.{refl, ap}
 use Rattle.std.proofs.Math.Bool.{or-false}
-use Rattle.std.proofs.Math.Option.{none}
 use Rattle.hold.specs.Hold.{restore}
 use Rattle.removal.specs.declared.Removal.TheVariants.{All}
 use Rattle.nucleus.specs.Users.{closed, counted, made_ready, ended}
@@ -64,23 +63,23 @@ module _ (capacity : ℕ) (call : Call) (format buffer : List ℕ) (n : Nucleus)
   unfolding file_unknown isn_invalid format_refused field_twice record_length_refused value_refused none_found held_elsewhere waits presence_refused not_held release_refused file_full limit_reached queue_full value_taken target effect_at backed_out removed
   perform_bt =
       let left = left_count x n.queue n.images (width_of n) (All call.user) in
-      performed_as call n (request capacity Bt call format buffer) none _ _ _ _ buffer refl
+      performed_as call n (request capacity Bt call format buffer) None _ _ _ _ buffer refl
       (λ passed. ap (λ k. resulting (good 0 (gone x n.queue n.images (width_of n) (All call.user)) 0) k buffer) (on_state (user_back call n.state (ended x.user) left)))
 
   pub perform_op : perform (request capacity Op call format buffer) n ≡ result_on call n (op_done call x) n.store n.queue n.images buffer
   unfolding file_unknown isn_invalid format_refused field_twice record_length_refused value_refused none_found held_elsewhere waits presence_refused not_held release_refused file_full limit_reached queue_full value_taken target effect_at
   perform_op =
-      performed_as call n (request capacity Op call format buffer) none _ n.store n.queue n.images buffer refl
+      performed_as call n (request capacity Op call format buffer) None _ n.store n.queue n.images buffer refl
       (λ passed. ap (λ k. resulting (good 0 0 0) k buffer) (on_state (user_back call n.state (op_done call x).share.user n.state.count)))
 
   pub perform_cl : perform (request capacity Cl call format buffer) n ≡ result_on call n (cl_done x) n.store n.queue n.images buffer
   unfolding file_unknown isn_invalid format_refused field_twice record_length_refused value_refused none_found held_elsewhere waits presence_refused not_held release_refused file_full limit_reached queue_full value_taken target effect_at
   perform_cl =
-      performed_as call n (request capacity Cl call format buffer) none _ n.store n.queue n.images buffer refl
+      performed_as call n (request capacity Cl call format buffer) None _ n.store n.queue n.images buffer refl
       (λ passed. ap (λ k. resulting (good 0 0 x.user.sequence) k buffer) (on_state (user_back call n.state (closed x.user) n.state.count)))
 
   pub perform_pe : perform (request capacity Pe call format buffer) n ≡ result_on call n (pe_done x) n.store n.queue n.images buffer
   unfolding file_unknown isn_invalid format_refused field_twice record_length_refused value_refused none_found held_elsewhere waits presence_refused not_held release_refused file_full limit_reached queue_full value_taken target effect_at
   perform_pe =
-      performed_as call n (request capacity Pe call format buffer) none _ n.store n.queue n.images buffer refl
+      performed_as call n (request capacity Pe call format buffer) None _ n.store n.queue n.images buffer refl
       (λ passed. ap (λ k. resulting (good 0 0 0) k buffer) (on_state (user_back call n.state (made_ready x.user) n.state.count)))

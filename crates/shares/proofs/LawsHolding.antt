@@ -1,17 +1,15 @@
 -- HI and RI: what `perform` does, over the caller's share.
 -- Assumes nothing.
-use Rattle.std.specs.Prelude.{ℕ, ◌+◌, ◌≤◌, ◌<◌, ◌≡◌, Bool, true, false, ◌&&◌, eqb, leb, length}
+use Rattle.std.specs.Prelude.{ℕ, ◌+◌, ◌≤◌, ◌<◌, ◌≡◌, Bool, true, false, ◌&&◌, eqb, leb, length, Some, None}
 use Rattle.std.proofs.Common.{arith}
 use Rattle.std.proofs.Math.Path.{ap}
 use mathlib.Core.List.{List, [], ◌∷◌, ◌++◌}
-use Rattle.std.proofs.Math.Option.{none}
 use borrow.Author.Tests.{leb-false, lt-ltb}
 use Rattle.lists.specs.Tests.{within, Outcome, holds, fails, outcome}
 use Rattle.definition.specs.Table.{file_at}
 use Rattle.definition.specs.declared.File.{File}
 use Rattle.layout.specs.Layout.{place}
 use Rattle.store.specs.Store.{has_record, file_part}
-use Rattle.records.specs.declared.Found.TheVariants.{At}
 use Rattle.removal.specs.declared.Removal.{Removal}
 use Rattle.removal.specs.declared.Removal.TheVariants.{One, Unchanged}
 use Rattle.nucleus.specs.Responses.{good}
@@ -44,7 +42,7 @@ module _ (capacity : ℕ) (call : Call) (format buffer : List ℕ) (n : Nucleus)
   Room isn = is_holder call.user (holder_at call x n.queue isn) ≡ false → n.state.count < length n.queue
 
   -- so it is where the row of 70 fails
-  pub room_left : (isn : ℕ) (before after : List Row) → capacity ≤ length n.queue → first_cause (before ++ (rows_room call x n.queue capacity isn ++ after)) ≡ none → Room isn
+  pub room_left : (isn : ℕ) (before after : List Row) → capacity ≤ length n.queue → first_cause (before ++ (rows_room call x n.queue capacity isn ++ after)) ≡ None → Room isn
   room_left isn before after long e new =
       let limit = row HoldLimit (is_new call x n.queue isn && leb x.user.hold_limit (held_by (in_use call x n.queue) call.user)) in
       let full = row QueueFull (is_new call x n.queue isn && leb capacity n.state.count) in
@@ -105,7 +103,7 @@ module _ (capacity : ℕ) (call : Call) (format buffer : List ℕ) (n : Nucleus)
   unfolding ri_cause file_unknown isn_invalid format_refused field_twice record_length_refused value_refused none_found held_elsewhere waits presence_refused not_held release_refused file_full limit_reached queue_full value_taken target
   perform_ri_all zero = ri_performed (rw zero)
 
-  module _ (i : ℕ) (there : place n.state.definition call.file ≡ At i) where
+  module _ (i : ℕ) (there : place n.state.definition call.file ≡ Some i) where
     abbrev f : File
     f = file_at n.state.definition i
 
@@ -122,7 +120,7 @@ module _ (capacity : ℕ) (call : Call) (format buffer : List ℕ) (n : Nucleus)
       unfolding hi_cause file_unknown isn_invalid format_refused field_twice record_length_refused value_refused none_found held_elsewhere waits presence_refused not_held release_refused file_full limit_reached queue_full value_taken target
       hi_cause_is = rw (there, valid)
 
-      hi_effect : capacity ≤ length n.queue → hi_cause call x n.queue capacity ≡ none
+      hi_effect : capacity ≤ length n.queue → hi_cause call x n.queue capacity ≡ None
           → effect (request capacity Hi call format buffer) n
           ≡ result_on call n (done (good call.isn 0 0) (held_share call x n.queue n.state.clock call.isn)) n.store
           (held_queue call x n.queue call.isn (has_record f p call.isn)) n.images buffer

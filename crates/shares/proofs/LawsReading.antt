@@ -1,22 +1,18 @@
 -- L1 and L4: what `perform` does, over the caller's share and the part of the call's file.
 -- Assumes nothing.
-use Rattle.std.specs.Prelude.{ℕ, ◌≤◌, ◌≡◌, true, eqb, length}
+use Rattle.std.specs.Prelude.{ℕ, ◌≤◌, ◌≡◌, true, eqb, length, Option, Some, None}
 use Rattle.std.proofs.Math.Path.{refl}
 use Rattle.std.proofs.Common.{ap}
 use Rattle.std.proofs.Math.Bool.{or-false}
 use mathlib.Core.List.{List, [], ◌∷◌, ◌++◌}
-use Rattle.std.proofs.Math.Option.{Option, none}
 use Rattle.lists.specs.Tests.{cond, within, Outcome, holds, fails, outcome}
 use Rattle.definition.specs.Table.{file_at}
 use Rattle.definition.specs.declared.File.{File}
 use Rattle.layout.specs.Layout.{place}
 use Rattle.elements.specs.Elements.{length_needed}
 use Rattle.store.specs.Store.{has_record, file_part}
-use Rattle.records.specs.declared.Found.TheVariants as found_at
 use Rattle.committed.specs.Committed.{version_there, version_bytes}
 use Rattle.search.specs.Search.{lowest}
-use Rattle.search.specs.declared.Occupied.{Occupied}
-use Rattle.search.specs.declared.Occupied.TheVariants.{At, Nowhere}
 use Rattle.nucleus.specs.Commands.{option_I}
 use Rattle.nucleus.specs.Nucleus.{Nucleus, request, Result, resulting, width_of}
 use Rattle.nucleus.specs.Responses.{good}
@@ -34,7 +30,7 @@ use Rattle.shares.proofs.Laws.{result_on, kept_same, nothing_done, performed_as}
 use Rattle.shares.proofs.LawsHolding.{room_left, held_is}
 use Rattle.shares.specs.declared.Share.{Share}
 
-module _ (capacity : ℕ) (call : Call) (format buffer : List ℕ) (n : Nucleus) (i : ℕ) (there : place n.state.definition call.file ≡ found_at.At i) where
+module _ (capacity : ℕ) (call : Call) (format buffer : List ℕ) (n : Nucleus) (i : ℕ) (there : place n.state.definition call.file ≡ Some i) where
   abbrev x : Share
   x = share_of call n.state
 
@@ -56,7 +52,7 @@ module _ (capacity : ℕ) (call : Call) (format buffer : List ℕ) (n : Nucleus)
   unfolding effect_at target sought version_at version_buffer
   l1_effect = rw there (rw there at (ap (read_on l1_after) (nothing_done call n)))
 
-  l4_effect : capacity ≤ length n.queue → l4_cause call f p x n.queue capacity format buffer ≡ none
+  l4_effect : capacity ≤ length n.queue → l4_cause call f p x n.queue capacity format buffer ≡ None
       → effect (request capacity L4 call format buffer) n
       ≡ result_on call n (read_done call x f p format buffer (held_share call x n.queue n.state.clock (sought_isn call f p))) n.store
       (held_queue call x n.queue (sought_isn call f p) (has_record f p (sought_isn call f p))) n.images (read_buffer call x f p format buffer)
@@ -83,10 +79,10 @@ module _ (capacity : ℕ) (call : Call) (format buffer : List ℕ) (n : Nucleus)
     unfolding l4_cause sought version_there file_unknown isn_invalid format_refused field_twice record_length_refused value_refused none_found held_elsewhere waits presence_refused not_held release_refused file_full limit_reached queue_full value_taken target
     l4_cause_is = go (outcome (eqb call.option option_I)) (lowest f p call.isn) refl
       where
-        go : Outcome (eqb call.option option_I) → (o : Occupied) → lowest f p call.isn ≡ o
+        go : Outcome (eqb call.option option_I) → (o : Option ℕ) → lowest f p call.isn ≡ o
             → first_cause (rows_last (request capacity L4 call format buffer) n) ≡ l4_cause call f p x n.queue capacity format buffer
-        go (holds s) (At isn) e = rw (s, there, e) (simp or-false)
-        go (holds s) Nowhere e = rw (s, there, e) (simp or-false)
+        go (holds s) (Some isn) e = rw (s, there, e) (simp or-false)
+        go (holds s) None e = rw (s, there, e) (simp or-false)
         go (fails s) o e = rw (s, there, rw s at valid) (simp or-false)
 
     pub perform_l1 : perform (request capacity L1 call format buffer) n

@@ -1,7 +1,6 @@
 -- Each command over its parts: the rows that can refuse it, in the table's order, and what it does where none holds. The laws of `perform`
 -- (Laws.antt) say that this is what the response table and the effects come to, command by command.
-use Rattle.std.specs.Prelude.{ℕ, ◌+◌, ◌-◌, min, Bool, true, false, not, ◌&&◌, ◌||◌, List, [], ◌∷◌, ◌++◌, eqb, leb, ltb, length, take}
-use Rattle.std.proofs.Math.Option.{Option, none}
+use Rattle.std.specs.Prelude.{ℕ, ◌+◌, ◌-◌, min, Bool, true, false, not, ◌&&◌, ◌||◌, List, [], ◌∷◌, ◌++◌, eqb, leb, ltb, length, take, Option, Some, None}
 use Rattle.std.proofs.lemmas.List.Edits.{sets}
 use Rattle.lists.specs.Tests.{cond}
 use Rattle.lists.specs.Folds.{any}
@@ -14,13 +13,9 @@ use Rattle.fields.specs.Fields.{values_allowed, write_fields}
 use Rattle.nulls.specs.Nulls.{null_record}
 use Rattle.store.specs.Store.{has_record, record_of, field_value}
 use Rattle.search.specs.Search.{first_of, lowest, elsewhere}
-use Rattle.search.specs.declared.Occupied.{Occupied}
-use Rattle.search.specs.declared.Occupied.TheVariants.{At}
 use Rattle.entries.specs.Entries.{entries, is_of}
 use Rattle.entries.specs.declared.Entry.{Entry}
 use Rattle.queue.specs.Queue.{holder, held_by, append}
-use Rattle.queue.specs.declared.Lookup.{Lookup}
-use Rattle.queue.specs.declared.Lookup.TheVariants.{Held, Free}
 use Rattle.changes.specs.Changes.{first_change_queue, first_change_images}
 use Rattle.images.specs.Images.{image_has}
 use Rattle.removal.specs.Removal.{remove_queue, remove_images, remove_count}
@@ -77,7 +72,7 @@ module _ (call : Call) (x : Share) (queue : List ℕ) where
   abbrev pub in_use : List Entry
   in_use = entries queue x.count
 
-  abbrev pub holder_at : ℕ → Lookup
+  abbrev pub holder_at : ℕ → Option (ℕ × Entry)
   holder_at isn = holder in_use call.file isn
 
   -- 20 of HI and L4
@@ -120,16 +115,16 @@ module _ (call : Call) (x : Share) (queue : List ℕ) where
   held_queue isn existed = cond (is_holder call.user (holder_at isn)) queue (append queue x.count (entry_at isn existed))
 
   -- ---- the image of the entry that is now there
-  abbrev pub holder_now : ℕ → ℕ → Bool → Lookup
+  abbrev pub holder_now : ℕ → ℕ → Bool → Option (ℕ × Entry)
   holder_now clock isn existed = holder (entries (held_queue isn existed) (held_share clock isn).count) call.file isn
 
-  abbrev pub queue_imaged : Lookup → List ℕ → Bool → List ℕ
-  queue_imaged (Held i e) q existed = first_change_queue q i existed
-  queue_imaged Free q existed = q
+  abbrev pub queue_imaged : Option (ℕ × Entry) → List ℕ → Bool → List ℕ
+  queue_imaged (Some (i, e)) q existed = first_change_queue q i existed
+  queue_imaged None q existed = q
 
-  abbrev pub images_with : Lookup → List ℕ → Bool → ℕ → List ℕ → List ℕ → List ℕ
-  images_with (Held i e) q existed width content images = first_change_images q images width i existed content
-  images_with Free q existed width content images = images
+  abbrev pub images_with : Option (ℕ × Entry) → List ℕ → Bool → ℕ → List ℕ → List ℕ → List ℕ
+  images_with (Some (i, e)) q existed width content images = first_change_images q images width i existed content
+  images_with None q existed width content images = images
 
   unfoldable pub imaged_queue : ℕ → ℕ → Bool → List ℕ
   imaged_queue clock isn existed = queue_imaged (holder_now clock isn existed) (held_queue isn existed) existed
@@ -144,7 +139,7 @@ module _ (call : Call) (x : Share) (queue : List ℕ) where
   -- ---- RI; of ISN 0 it is never refused
   unfoldable pub ri_cause : Option Response
   ri_cause =
-      cond (eqb call.isn 0) none
+      cond (eqb call.isn 0) None
       (first_cause (
       row NotHeld (not (is_holder call.user (holder_at call.isn)))
       ∷ row AlreadyChanged (is_changed (holder_at call.isn))
@@ -162,8 +157,8 @@ module _ (call : Call) (x : Share) (queue : List ℕ) where
 -- ---- L1 and L4
 module _ (call : Call) (f : File) (part : List ℕ) where
   -- the ISN that they are about
-  unfoldable pub sought : Occupied
-  sought = cond (eqb call.option option_I) (lowest f part call.isn) (At call.isn)
+  unfoldable pub sought : Option ℕ
+  sought = cond (eqb call.option option_I) (lowest f part call.isn) (Some call.isn)
 
   abbrev pub sought_isn : ℕ
   sought_isn = isn_in sought
@@ -236,7 +231,7 @@ module _ (f : File) (part : List ℕ) where
           )
 
       -- N1, at the ISN that it found, if any
-      unfoldable pub n1_cause : Occupied → Option Response
+      unfoldable pub n1_cause : Option ℕ → Option Response
       n1_cause free =
           first_cause (
           row_scratch f
@@ -252,7 +247,7 @@ module _ (f : File) (part : List ℕ) where
     abbrev pub is_free : ℕ → Bool
     is_free isn = not (has_record f part isn) && not (any (is_of call.file isn) (in_use call x queue))
 
-    unfoldable pub free_isn : Occupied
+    unfoldable pub free_isn : Option ℕ
     free_isn = first_of is_free (from_to (x.last_assigned + 1) f.max_isn ++ from_to 1 x.last_assigned)
 
 -- ---- entries that go

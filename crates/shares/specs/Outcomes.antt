@@ -1,7 +1,6 @@
 -- What each command gives back over its parts: its answer and share, and what it leaves in each slice that it is lent. A refused command
 -- leaves all as it was.
-use Rattle.std.specs.Prelude.{ℕ, List, eqb}
-use Rattle.std.proofs.Math.Option.{Option}
+use Rattle.std.specs.Prelude.{ℕ, List, eqb, Option}
 use Rattle.definition.specs.declared.File.{File}
 use Rattle.elements.specs.Elements.{length_needed}
 use Rattle.fields.specs.Fields.{read_fields}

@@ -1,9 +1,6 @@
 -- The share of a state that a command is handed, and how it goes back.
-use Rattle.std.specs.Prelude.{ℕ, ◌-◌, Bool, List, set}
-use Rattle.std.proofs.Math.Option.{Option, none, some}
+use Rattle.std.specs.Prelude.{ℕ, ◌-◌, Bool, List, set, Option, Some, None, Result, Ok, Err}
 use Rattle.layout.specs.Layout.{place}
-use Rattle.records.specs.declared.Found.{Found}
-use Rattle.records.specs.declared.Found.TheVariants.{At, Nowhere}
 use Rattle.nucleus.specs.Responses.{refused}
 use Rattle.nucleus.specs.Nucleus.{user_at, data_at}
 use Rattle.nucleus.specs.Target.{assigned_in}
@@ -16,8 +13,6 @@ use Rattle.nucleus.specs.declared.User.{User}
 use Rattle.nucleus.specs.declared.EtData.{EtData}
 use Rattle.shares.specs.declared.Share.{Share}
 use Rattle.shares.specs.declared.Done.{Done}
-use Rattle.shares.specs.declared.Verdict.{Verdict}
-use Rattle.shares.specs.declared.Verdict.TheVariants.{Passed, Refused}
 
 -- ---- shares
 abbrev pub share : User → EtData → ℕ → ℕ → Bool → Share
@@ -28,9 +23,9 @@ share_of call s =
     share (user_at s call.user) (data_at s call.user) (assigned_in s.last_assigned (place s.definition call.file)) s.count
     (in_line s.wait_queue call.user)
 
-abbrev pub assigned_with : List ℕ → Found → ℕ → List ℕ
-assigned_with isns (At i) isn = set isns i isn
-assigned_with isns Nowhere isn = isns
+abbrev pub assigned_with : List ℕ → Option ℕ → ℕ → List ℕ
+assigned_with isns (Some i) isn = set isns i isn
+assigned_with isns None isn = isns
 
 -- the state with the share put back
 unfoldable pub with_share : Call → Share → State → State
@@ -61,15 +56,19 @@ done answer x = record { answer = answer; share = x }
 
 -- refused with a cause, where there is one: the share is as it was; else answered
 abbrev pub done_unless : Option Response → Share → Done → Done
-done_unless (some cause) old d = done (refused cause) old
-done_unless none old d = d
+done_unless (Some cause) old d = done (refused cause) old
+done_unless None old d = d
 
 -- what a slice has afterwards: as it was where a cause refuses
 abbrev pub kept_by : {A : Type 0} → Option Response → A → A → A
-kept_by (some cause) old new = old
-kept_by none old new = new
+kept_by (Some cause) old new = old
+kept_by None old new = new
+
+-- what some rows of the response table say: none of them holds, or the first that does refuses
+abbrev pub Verdict : Type 0
+Verdict = Result (Unit {0}) Response
 
 -- a cause, if any, as code answers it
 abbrev pub verdict : Option Response → Verdict
-verdict (some cause) = Refused cause
-verdict none = Passed
+verdict (Some cause) = Err cause
+verdict None = Ok tt

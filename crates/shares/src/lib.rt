@@ -28,13 +28,6 @@ pub struct Done {
     pub share: Share,
 }
 
-// What some rows of the response table say: none of them holds, or the first that does refuses.
-#[derive(Clone, Copy)]
-pub enum Verdict {
-    Passed,
-    Refused(Response),
-}
-
 // A refusal leaves the share as it was.
 pub fn refused(cause: Response, share: Share) -> Done
     ensures { result ≡ done (refused cause) share }

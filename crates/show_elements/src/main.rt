@@ -3,7 +3,6 @@
 #![tactic(auto)]
 
 use definition::File;
-use elements::Needed;
 use std::io;
 
 // The first file of a definition table.
@@ -22,7 +21,7 @@ fn judge(rt: &impl Print, f: File, format: &[u8], room: usize) -> io::Result<()>
         return show::text(rt, b"41\n");
     }
     let needed = elements::needed_within(f, format, room);
-    if let Needed::Fits(n) = needed {
+    if let Some(n) = needed {
         show::number(rt, n as u64)?;
     } else {
         show::text(rt, b"53")?;

@@ -5,7 +5,6 @@
 
 use definition::Definition;
 use entries::Entry;
-use queue::Lookup;
 use removal::Removal;
 use std::io;
 
@@ -53,7 +52,7 @@ fn print_holder(rt: &impl Print, queue: &[u64], count: usize, isn: u16) -> io::R
     show::title(rt, b"among", count as u64)?;
     show::title(rt, b"holder of", isn as u64)?;
     let found = queue::holder(queue, count, 1, isn);
-    if let Lookup::Held(_, e) = found {
+    if let Some((_, e)) = found {
         show::number(rt, e.user as u64)?;
     } else {
         show::text(rt, b"nobody")?;

@@ -4,7 +4,6 @@
 #![tactic(auto)]
 
 use definition::File;
-use search::Occupied;
 use std::io;
 
 fn house() -> File {
@@ -41,7 +40,7 @@ fn has(rt: &impl Print, part: &[u8], isn: u16) -> io::Result<()> {
 fn lowest(rt: &impl Print, part: &[u8], from: u16) -> io::Result<()> {
     show::title(rt, b"lowest", from as u64)?;
     let found = search::lowest(house(), part, from);
-    if let Occupied::At(isn) = found {
+    if let Some(isn) = found {
         show::number(rt, isn as u64)?;
     } else {
         show::text(rt, b"response 3")?;

@@ -2,11 +2,10 @@
 -- Assumes nothing.
 use Prim.Native.Nat.{ℕ, zero, suc, ◌+◌, ◌-◌, ◌*◌, ◌/◌, ◌≤◌, ◌<◌}
 use Rattle.std.proofs.Common.{le-div_iff_mul-le, arith, ◌∙◌, get_or-set_other}
-use Rattle.std.specs.Prelude.{◌≡◌, ◌&&◌, List, [], ◌∷◌, eqb, ltb, length}
+use Rattle.std.specs.Prelude.{◌≡◌, ◌&&◌, List, [], ◌∷◌, eqb, ltb, length, Some, None}
 use Rattle.std.proofs.Math.Path.{refl, sym, ap}
 use Rattle.std.proofs.Math.Bool.{true, false}
 use Rattle.std.proofs.Math.Logic.{inl, inr}
-use Rattle.std.proofs.Math.Option.{none, some}
 use Rattle.std.proofs.Math.ListN.{get_or, set, length-set}
 use Rattle.std.proofs.Math.Seq.{set-get_or, take_all}
 use borrow.Author.Tests.{ltb-true, ltb-false, eq-eqb, eqb-true}
@@ -84,38 +83,38 @@ module _ (f : File) (part : List ℕ) (isn : ℕ) where
 
   -- ---- what `get` says
 
-  pub get_some : has_record f part isn ≡ true → get f part isn ≡ some (record_of f part isn)
+  pub get_some : has_record f part isn ≡ true → get f part isn ≡ Some (record_of f part isn)
   unfolding get
   get_some h = rw h
 
-  pub get_none : has_record f part isn ≡ false → get f part isn ≡ none
+  pub get_none : has_record f part isn ≡ false → get f part isn ≡ None
   unfolding get
   get_none h = rw h
 
-  pub get_is : get f part isn ≡ cond (has_record f part isn) (some (record_of f part isn)) none
+  pub get_is : get f part isn ≡ cond (has_record f part isn) (Some (record_of f part isn)) None
   unfolding get
   get_is = refl
 
   -- no record at an ISN that the file does not have
-  pub get_outside : (1 ≤ isn → isn ≤ f.max_isn → ⊥) → get f part isn ≡ none
+  pub get_outside : (1 ≤ isn → isn ≤ f.max_isn → ⊥) → get f part isn ≡ None
   get_outside out = go (outcome (has_record f part isn))
     where
-      go : Outcome (has_record f part isn) → get f part isn ≡ none
+      go : Outcome (has_record f part isn) → get f part isn ≡ None
       go (holds h) = absurd (out (fits_least (has_fits h)) (fits_most (has_fits h)))
       go (fails h) = get_none h
 
-  pub some_has : (r : List ℕ) → get f part isn ≡ some r → has_record f part isn ≡ true
+  pub some_has : (r : List ℕ) → get f part isn ≡ Some r → has_record f part isn ≡ true
   some_has r e = go (outcome (has_record f part isn))
     where
       go : Outcome (has_record f part isn) → has_record f part isn ≡ true
       go (holds h) = h
       go (fails h) = absurd (let z : ◌≡◌ {A = ℕ} 0 1 = cc (get_none h) in omega arith)
 
-  pub some_record : (r : List ℕ) → get f part isn ≡ some r → record_of f part isn ≡ r
+  pub some_record : (r : List ℕ) → get f part isn ≡ Some r → record_of f part isn ≡ r
   some_record r e = cc (get_some (some_has r e))
 
   -- a record has the file's width
-  pub get_length : (r : List ℕ) → get f part isn ≡ some r → length r ≡ record_length f
+  pub get_length : (r : List ℕ) → get f part isn ≡ Some r → length r ≡ record_length f
   get_length r e = sym (ap length (some_record r e)) ∙ record_of_length (some_has r e)
 
 -- ---- `get` reads no more than the slot
@@ -186,7 +185,7 @@ module _ (f : File) (part : List ℕ) (isn : ℕ) (r : List ℕ) where
       by_put (λ p. piece b m p ≡ piece b m part) refl
       (λ h e. patch_other (slot_offset f isn) (slot_length f) part (1 ∷ r) (slot_inside f part isn h) (slot_whole e) b m apart)
 
-  pub get_put : slot_fits f part isn ≡ true → length r ≡ record_length f → get f (put_record f part isn r) isn ≡ some r
+  pub get_put : slot_fits f part isn ≡ true → length r ≡ record_length f → get f (put_record f part isn r) isn ≡ Some r
   unfolding has_record slot_fits
   get_put h e =
       let at = slot_offset f isn in
@@ -195,7 +194,7 @@ module _ (f : File) (part : List ℕ) (isn : ℕ) (r : List ℕ) where
       let slot : piece at (w + 1) p ≡ 1 ∷ r = rw (put_puts h e) (patch_same at (slot_length f) part (1 ∷ r) (slot_inside f part isn h) (slot_whole e)) in
       let first : get_or p at 0 ≡ 1 = sym (piece_first at w p 0) ∙ ap (λ x. get_or x 0 0) slot in
       let has : has_record f p isn ≡ true = rw (put_length, first, h) in
-      get_some f p isn has ∙ ap some (sym (piece_rest at w p) ∙ ap (piece 1 w) slot ∙ take_all w r (omega arith))
+      get_some f p isn has ∙ ap Some (sym (piece_rest at w p) ∙ ap (piece 1 w) slot ∙ take_all w r (omega arith))
 
   pub get_put_other : (other : ℕ) → (other ≡ isn → ⊥) → get f (put_record f part isn r) other ≡ get f part other
   get_put_other other apart = go (outcome (slot_fits f part isn))
@@ -250,7 +249,7 @@ module _ (f : File) (part : List ℕ) (isn : ℕ) where
       go (holds h) = rw (h, length-set part (slot_offset f isn) 0, set_zero part (slot_offset f isn)) (and-false (slot_fits f part isn))
       go (fails h) = let no : has_record f part isn ≡ false = rw h in rw h no
 
-  pub get_empty : get f (empty f part isn) isn ≡ none
+  pub get_empty : get f (empty f part isn) isn ≡ None
   get_empty = get_none f (empty f part isn) isn has_empty
 
   pub get_empty_other : (other : ℕ) → (other ≡ isn → ⊥) → get f (empty f part isn) other ≡ get f part other
@@ -295,7 +294,7 @@ module _ (f : File) (part : List ℕ) where
   unfolding fresh
   fresh_length = cleared_length (slot_length f) (isns_from f part 1) part
 
-  pub get_fresh : (isn : ℕ) → get f (fresh f part) isn ≡ none
+  pub get_fresh : (isn : ℕ) → get f (fresh f part) isn ≡ None
   unfolding fresh has_record slot_fits
   get_fresh isn = get_none f (fresh f part) isn (go (outcome (slot_fits f part isn)))
     where

@@ -1,7 +1,6 @@
 -- Worked examples: the definitions computed on a file with highest ISN 3 and width 3 (fields of 1 and 2 bytes), in a part of 12 bytes.
 -- Assumes nothing.
-use Rattle.std.specs.Prelude.{ℕ, ◌≡◌, refl, Bool, true, List, [], ◌∷◌, ◌++◌, set}
-use Rattle.std.proofs.Math.Option.{Option, none, some}
+use Rattle.std.specs.Prelude.{ℕ, ◌≡◌, refl, Bool, true, List, [], ◌∷◌, ◌++◌, set, Option, Some, None}
 use Rattle.lists.specs.Folds.{all}
 use Rattle.definition.specs.Table.{no_file}
 use Rattle.definition.specs.declared.File.{File}
@@ -29,8 +28,8 @@ part = 1 ∷ 50 ∷ 65 ∷ 66 ∷ 2 ∷ 51 ∷ 67 ∷ 68 ∷ 1 ∷ 52 ∷ 69 ∷
 
 -- ---- what is read, as bytes: a record, or nothing
 bytes : Option (List ℕ) → List ℕ
-bytes none = []
-bytes (some r) = r
+bytes None = []
+bytes (Some r) = r
 
 record Row : Type 0 where
   given : List ℕ

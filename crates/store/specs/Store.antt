@@ -1,7 +1,6 @@
 -- Records in the part of the store that belongs to one file (document 01, 'Store': "files in table order, ISNs rising; each ISN has one byte,
 -- 1 for a record and any other for none, then the width").
-use Rattle.std.specs.Prelude.{ℕ, ◌+◌, ◌-◌, ◌*◌, ◌/◌, min, Bool, ◌&&◌, List, [], ◌∷◌, eqb, length, get_or, set}
-use Rattle.std.proofs.Math.Option.{Option, none, some}
+use Rattle.std.specs.Prelude.{ℕ, ◌+◌, ◌-◌, ◌*◌, ◌/◌, min, Bool, ◌&&◌, List, [], ◌∷◌, eqb, length, get_or, set, Option, Some, None}
 use Rattle.lists.specs.Tests.{cond, within}
 use Rattle.definition.specs.Table.{field_at, file_at}
 use Rattle.definition.specs.declared.File.{File}
@@ -43,7 +42,7 @@ abbrev pub record_of : File → List ℕ → ℕ → List ℕ
 record_of f part isn = piece (slot_offset f isn + 1) (record_length f) part
 
 unfoldable pub get : File → List ℕ → ℕ → Option (List ℕ)
-get f part isn = cond (has_record f part isn) (some (record_of f part isn)) none
+get f part isn = cond (has_record f part isn) (Some (record_of f part isn)) None
 
 -- what the store shows of an ISN: its record, and no bytes where there is none
 unfoldable pub shown : File → List ℕ → ℕ → List ℕ

@@ -1,11 +1,10 @@
 -- What stands at a key once the users that a test picks are backed out: of the machine (`view`), of the journal (`told`),
 -- and what each operation does to the two. Assumes nothing.
-use Rattle.std.specs.Prelude.{◌≡◌, Bool, cond, ◌&&◌, ◌||◌, ℕ}
+use Rattle.std.specs.Prelude.{◌≡◌, Bool, cond, ◌&&◌, ◌||◌, ℕ, None}
 use Rattle.std.proofs.Math.Path.{refl, ap}
 use Rattle.std.proofs.Common.{sym, ◌∙◌, eqb-true}
 use Rattle.std.proofs.Math.Bool.{true, false, not, and-false}
 use mathlib.Core.List.{List, [], ◌∷◌, ◌++◌, map}
-use Rattle.std.proofs.Math.Option.{none}
 use Rattle.std.proofs.Math.Dec.{eqb}
 use Rattle.lists.specs.Tests.{and_left, and_right}
 use Rattle.lists.specs.Folds.{any, all, all_append}
@@ -36,8 +35,8 @@ module _ (G : Ground) where
       → told G P j (log G (change u k c) b) ≡ cond (not (P u) && eqb k j) (apply k c (told G P j b)) (told G P j b)
   unfolding log replay
   told_change P j u k c b =
-      ap (replay G j none) (sift_append (λ l. not (uncommitted_of G P l)) b (record { user = u; key = k; update = c; uncommitted = true } ∷ []))
-      ∙ replay_append j none (strike G P b) (strike G P (record { user = u; key = k; update = c; uncommitted = true } ∷ []))
+      ap (replay G j None) (sift_append (λ l. not (uncommitted_of G P l)) b (record { user = u; key = k; update = c; uncommitted = true } ∷ []))
+      ∙ replay_append j None (strike G P b) (strike G P (record { user = u; key = k; update = c; uncommitted = true } ∷ []))
       ∙ replay_keep j (told G P j b) (not (P u)) (record { user = u; key = k; update = c; uncommitted = true }) []
 
   swap : (o n p : Bool) → not ((o && n) && p) ≡ not (o && (p && n))
@@ -58,7 +57,7 @@ module _ (G : Ground) where
 
   pub told_end : (P : ℕ → Bool) (k u : ℕ) (b : Journal G) → told G P k (log G (end u) b) ≡ told G (less P u) k b
   unfolding log
-  told_end P k u b = replay_end P k u none b
+  told_end P k u b = replay_end P k u None b
 
   both : (o p t : Bool) → (not (o && t) && not (o && p)) ≡ not (o && (p || t))
   both true true true = refl
@@ -69,7 +68,7 @@ module _ (G : Ground) where
 
   pub told_back_out : (P : ℕ → Bool) (k u : ℕ) (b : Journal G) → told G P k (log G (back_out u) b) ≡ told G (plus P u) k b
   unfolding log
-  told_back_out P k u b = ap (replay G k none)
+  told_back_out P k u b = ap (replay G k None)
       (sift_sift (λ l. not (uncommitted_of G P l)) (λ l. not (uncommitted_of G (λ v. eqb v u) l)) b
       ∙ sift_ext _ (λ l. not (uncommitted_of G (plus P u) l)) (λ l. both l.uncommitted (P l.user) (eqb l.user u)) b)
 

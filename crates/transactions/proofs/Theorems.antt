@@ -4,10 +4,9 @@
 -- Assumes nothing.
 use Rattle.std.proofs.Math.Path.{◌≡◌, refl}
 use Rattle.std.proofs.Common.{sym, ◌∙◌, ap, arith, eqb-true, ne_eqb}
-use Rattle.std.specs.Prelude.{Bool, not, ◌&&◌, ◌≢◌, ℕ}
+use Rattle.std.specs.Prelude.{Bool, not, ◌&&◌, ◌≢◌, ℕ, Some, None}
 use Rattle.std.proofs.Math.Bool.{true, false, cond, and-false}
 use mathlib.Core.List.{List, [], ◌∷◌}
-use Rattle.std.proofs.Math.Option.{none, some}
 use Rattle.std.proofs.Math.Dec.{eqb}
 use Rattle.std.proofs.lemmas.Bool.{not-true}
 use Rattle.lists.specs.Tests.{eqbs, eqb_self, eqbs_self, not_both, and_left, and_right, or_left, or_right, eqb_sym}
@@ -59,13 +58,13 @@ module _ (G : Ground) where
         go true i = image_free e i (or_left (seen e) (any seen q) f)
         go false i = h
 
-    pub clash_view : (m : Machine G) → taken G u k c (some r) m ≡ false → clash G c (file k) r (view G P j m) ≡ false
+    pub clash_view : (m : Machine G) → taken G u k c (Some r) m ≡ false → clash G c (file k) r (view G P j m) ≡ false
     unfolding taken
     clash_view m f = clash_back m.queue (or_right (any (met m) keys) (any seen m.queue) f) (get m.store j)
         (rw (t.unlike, ← t.same, eqb_self (file k)) at (any_elem (met m) j keys (or_left (any (met m) keys) (any seen m.queue) f) t.two))
 
   -- no clash: a judged field differs
-  judged : (c : Update) (F : ℕ) (r b : Bytes) (d : ℕ) → clash G c F r (some b) ≡ false → judges c d ≡ true → any (eqb d) (fields F) ≡ true
+  judged : (c : Update) (F : ℕ) (r b : Bytes) (d : ℕ) → clash G c F r (Some b) ≡ false → judges c d ≡ true → any (eqb d) (fields F) ≡ true
       → value F d r ≡ value F d b → ⊥
   unfolding clash
   judged c F r b d f j i v = not_both (eqbs (value F d b) (value F d b)) (eqbs_self (value F d b)) (rw (j, v) at (any_elem _ d (fields F) f i))
@@ -147,7 +146,7 @@ module _ (G : Ground) where
         apart_out : (P : ℕ → Bool) (j : ℕ) → Two G k j → P u ≡ false → Apart G (file k) (apply k c (get m.store k)) (view G P j m)
         apart_out P j t h r o d x y i = go (judges c d) refl
           where
-            free : clash G c (file k) r (some o) ≡ false
+            free : clash G c (file k) r (Some o) ≡ false
             free = rw y at (clash_view u k c r P h j t m (rw x at n))
 
             go : (q : Bool) → judges c d ≡ q → value (file k) d r ≡ value (file k) d o → ⊥
@@ -211,22 +210,22 @@ module _ (G : Ground) where
     reached os us = kept_back_outs us (run G os (begin G)).machine (run G os (begin G)).journal (kept_run os (begin G) kept_begin)
 
     -- what the invariant says of the store as it stands
-    pub same_slots : (m : Machine G) (b : Journal G) → Invariant G m b → (k : ℕ) → get m.store k ≡ replay G k none b
-    same_slots m b I k = sym (back_stay k (get m.store k) m.queue) ∙ I.agree stay k ∙ ap (replay G k none) (strike_stay G b)
+    pub same_slots : (m : Machine G) (b : Journal G) → Invariant G m b → (k : ℕ) → get m.store k ≡ replay G k None b
+    same_slots m b I k = sym (back_stay k (get m.store k) m.queue) ∙ I.agree stay k ∙ ap (replay G k None) (strike_stay G b)
 
     pub no_value_twice : (m : Machine G) (b : Journal G) → Invariant G m b → (k j : ℕ) → Two G k j → Apart G (file k) (get m.store k) (get m.store j)
     no_value_twice m b I k j t = rw (← (back_stay k (get m.store k) m.queue), ← (back_stay j (get m.store j) m.queue)) (I.apart stay k j t)
 
     -- After any list of operations, and with any users backed out in any order, the store has what the journal has.
     pub backed_out_never_was : (os : List (Operation Update)) (us : List ℕ) (k : ℕ)
-        → get (back_outs G us (run G os (begin G)).machine).store k ≡ replay G k none (struck G us (run G os (begin G)).journal)
+        → get (back_outs G us (run G os (begin G)).machine).store k ≡ replay G k None (struck G us (run G os (begin G)).journal)
     backed_out_never_was os us k = same_slots _ _ (reached os us) k
 
     -- After the same, no unique value stands in two records of a file.
     pub unique_values_apart : (os : List (Operation Update)) (us : List ℕ) (k j : ℕ) (a b : Bytes) (d : ℕ)
         → any (eqb k) keys ≡ true → any (eqb j) keys ≡ true → k ≢ j → file k ≡ file j
-        → get (back_outs G us (run G os (begin G)).machine).store k ≡ some a
-        → get (back_outs G us (run G os (begin G)).machine).store j ≡ some b
+        → get (back_outs G us (run G os (begin G)).machine).store k ≡ Some a
+        → get (back_outs G us (run G os (begin G)).machine).store j ≡ Some b
         → any (eqb d) (fields (file k)) ≡ true
         → value (file k) d a ≢ value (file k) d b
     unique_values_apart os us k j a b d ki ji n f x y i v =

@@ -1,9 +1,8 @@
 -- What the hold queue puts back at a key for the users that a test picks, and how holds, releases and changes of entries act on that.
 -- Assumes nothing.
-use Rattle.std.specs.Prelude.{◌≡◌, refl, Bool, true, false, not, cond, ◌&&◌, ◌||◌, List, [], ◌∷◌, ◌++◌, map, ℕ, eqb}
+use Rattle.std.specs.Prelude.{◌≡◌, refl, Bool, true, false, not, cond, ◌&&◌, ◌||◌, List, [], ◌∷◌, ◌++◌, map, ℕ, eqb, None}
 use Rattle.std.proofs.Common.{sym, ◌∙◌, ap, append-nil, eqb-true}
 use Rattle.std.proofs.Math.Bool.{and-false, and-true}
-use Rattle.std.proofs.Math.Option.{none}
 use Rattle.std.proofs.lemmas.Bool.{not-false}
 use Rattle.lists.specs.Tests.{eqb_self, not_both, and_left, or_left}
 use Rattle.lists.specs.Folds.{any}
@@ -60,7 +59,7 @@ back_hold k P x u j q = go (any (at_key j) q)
   where
     go : (b : Bool) → back k P x (cond b q (q ++ (new_entry u j ∷ []))) ≡ back k P x q
     go true = refl
-    go false = back_append k P x q (new_entry u j ∷ []) ∙ ap (λ c. cond c none (back k P x q)) (and-false (eqb j k))
+    go false = back_append k P x q (new_entry u j ∷ []) ∙ ap (λ c. cond c None (back k P x q)) (and-false (eqb j k))
 
 -- an image kept at another key leaves this key
 pub back_image_kept : (k : ℕ) (P : ℕ → Bool) (j : ℕ) (y : Slot) → eqb j k ≡ false

@@ -1,7 +1,6 @@
 -- What stands at a key once the users that a test picks are backed out: of the machine (`view`), of the journal (`told`).
-use Rattle.std.specs.Prelude.{Bool, ◌||◌, ℕ}
+use Rattle.std.specs.Prelude.{Bool, ◌||◌, ℕ, None}
 use Rattle.std.proofs.Math.Bool.{not}
-use Rattle.std.proofs.Math.Option.{none}
 use Rattle.transactions.specs.Slots.{Slot}
 use Rattle.transactions.specs.Machine.{Entry, Ground, Machine, Journal, strike, replay}
 use Rattle.transactions.specs.View.{back}
@@ -11,7 +10,7 @@ module _ (G : Ground) where
 
   -- what the journal tells of a key once the users that `P` picks are struck
   abbrev pub told : (ℕ → Bool) → ℕ → Journal G → Slot
-  told P k b = replay G k none (strike G P b)
+  told P k b = replay G k None (strike G P b)
 
   -- what stands at a key once the users that `P` picks are backed out
   abbrev pub view : (ℕ → Bool) → ℕ → Machine G → Slot

@@ -1,8 +1,7 @@
 -- The abstract machine of holds, changes and back-outs: a store of slots, a hold queue with before-images, six operations; and the journal
 -- (document 01's book) that is kept beside it. No bytes, files' layouts or commands here: what lies below is a section's parameter, `Ground`.
 -- Assumes nothing.
-use Rattle.std.specs.Prelude.{◌≡◌, Bool, true, false, not, cond, ◌&&◌, ◌||◌, List, [], ◌∷◌, ◌++◌, map, ℕ, eqb}
-use Rattle.std.proofs.Math.Option.{none, some}
+use Rattle.std.specs.Prelude.{◌≡◌, Bool, true, false, not, cond, ◌&&◌, ◌||◌, List, [], ◌∷◌, ◌++◌, map, ℕ, eqb, Some, None}
 use Rattle.lists.specs.Tests.{eqbs}
 use Rattle.lists.specs.Folds.{any}
 use Rattle.lists.specs.Sift.{sift}
@@ -51,19 +50,19 @@ pub record Ground : Type 1 where
 
 -- what is asked of it: the store's two laws, and that a change either judges a unique field or leaves it as it was
 pub record Laws (G : Ground) : Type 0 where
-  pub empty : (k : ℕ) → G.get G.fresh k ≡ none
+  pub empty : (k : ℕ) → G.get G.fresh k ≡ None
   pub get_put : (s : G.Store) (k : ℕ) (x : Slot) → G.fit k x ≡ true → G.get (G.put s k x) k ≡ x
   pub get_other : (s : G.Store) (k : ℕ) (x : Slot) (j : ℕ) → G.fit k x ≡ true → eqb k j ≡ false → G.get (G.put s k x) j ≡ G.get s j
   pub get_fit : (s : G.Store) (k : ℕ) → any (eqb k) G.keys ≡ true → G.fit k (G.get s k) ≡ true
   pub may_key : (c : G.Update) (k : ℕ) (x : Slot) → G.may c k x ≡ true → any (eqb k) G.keys ≡ true
   pub may_fit : (c : G.Update) (k : ℕ) (x : Slot) → G.may c k x ≡ true → G.fit k (G.apply k c x) ≡ true
-  pub kept : (c : G.Update) (k : ℕ) (x : Slot) (r : Bytes) (d : ℕ) → G.may c k x ≡ true → G.apply k c x ≡ some r
+  pub kept : (c : G.Update) (k : ℕ) (x : Slot) (r : Bytes) (d : ℕ) → G.may c k x ≡ true → G.apply k c x ≡ Some r
       → any (eqb d) (G.fields (G.file k)) ≡ true → G.judges c d ≡ false
-      → (o : Bytes) × (x ≡ some o) × (G.value (G.file k) d o ≡ G.value (G.file k) d r)
+      → (o : Bytes) × (x ≡ Some o) × (G.value (G.file k) d o ≡ G.value (G.file k) d r)
 
 -- the queue
 abbrev pub new_entry : ℕ → ℕ → Entry
-new_entry u k = record { user = u; key = k; changed = false; image = none }
+new_entry u k = record { user = u; key = k; changed = false; image = None }
 
 abbrev pub of_user : ℕ → Entry → Bool
 of_user u e = eqb e.user u
@@ -100,12 +99,12 @@ module _ (G : Ground) where
 
   -- record `r`, new at a key of file `F` by `c`, has a judged value that the slot has too
   unfoldable pub clash : Update → ℕ → Bytes → Slot → Bool
-  clash c F r none = false
-  clash c F r (some b) = any (λ d. judges c d && eqbs (value F d r) (value F d b)) (fields F)
+  clash c F r None = false
+  clash c F r (Some b) = any (λ d. judges c d && eqbs (value F d r) (value F d b)) (fields F)
 
   unfoldable pub taken : ℕ → ℕ → Update → Slot → Machine → Bool
-  taken u k c none m = false
-  taken u k c (some r) m =
+  taken u k c None m = false
+  taken u k c (Some r) m =
       any (λ j. not (eqb k j) && eqb (file k) (file j) && clash c (file k) r (get m.store j)) keys
       || any (λ (e : Entry). e.changed && not (of_user u e) && (not (eqb k e.key) && eqb (file k) (file e.key) && clash c (file k) r e.image)) m.queue
 

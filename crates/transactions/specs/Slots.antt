@@ -1,6 +1,5 @@
 -- What stands at a key: a record's bytes, or none.
-use Rattle.std.specs.Prelude.{List, ℕ}
-use Rattle.std.proofs.Math.Option.{Option}
+use Rattle.std.specs.Prelude.{List, ℕ, Option}
 
 abbrev pub Bytes : Type 0
 Bytes = List ℕ

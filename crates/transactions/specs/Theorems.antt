@@ -1,8 +1,7 @@
 -- What holds of machine and journal after any operations: for any users, backing them out of the one gives what the other has without them.
 use Rattle.std.proofs.Math.Path.{◌≡◌}
-use Rattle.std.specs.Prelude.{Bool, ℕ}
+use Rattle.std.specs.Prelude.{Bool, ℕ, Some}
 use Rattle.std.proofs.Math.Bool.{true, false}
-use Rattle.std.proofs.Math.Option.{some}
 use Rattle.std.proofs.Math.Dec.{eqb}
 use Rattle.lists.specs.Folds.{any, all}
 use Rattle.transactions.specs.Slots.{Bytes, Slot}
@@ -15,7 +14,7 @@ module _ (G : Ground) where
 
   -- two slots share no unique value of file `F`
   abbrev pub Apart : ℕ → Slot → Slot → Type 0
-  Apart F x y = (a b : Bytes) (d : ℕ) → x ≡ some a → y ≡ some b → any (eqb d) (fields F) ≡ true → value F d a ≡ value F d b → ⊥
+  Apart F x y = (a b : Bytes) (d : ℕ) → x ≡ Some a → y ≡ Some b → any (eqb d) (fields F) ≡ true → value F d a ≡ value F d b → ⊥
 
   -- two keys of one file
   pub record Two (k j : ℕ) : Type 0 where

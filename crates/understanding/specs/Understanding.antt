@@ -1,6 +1,5 @@
 -- What a call is understood as, as code answers it.
-use Rattle.std.specs.Prelude.{ℕ, Bool, not, ◌&&◌, List, eqb}
-use Rattle.std.proofs.Math.Option.{Option, none, some}
+use Rattle.std.specs.Prelude.{ℕ, Bool, not, ◌&&◌, List, eqb, Option, Some, None, Result, Ok, Err}
 use Rattle.lists.specs.Tests.{within}
 use Rattle.nucleus.specs.Commands.{command_of, one_of, at_given_isn, reading_values, option_I}
 use Rattle.nucleus.specs.Rows.{first_cause, rows_understood}
@@ -8,16 +7,14 @@ use Rattle.nucleus.specs.declared.Call.{Call}
 use Rattle.nucleus.specs.declared.Command.{Command}
 use Rattle.nucleus.specs.declared.Response.{Response}
 use Rattle.nucleus.specs.declared.Response.TheVariants.{CommandUnknown}
-use Rattle.understanding.specs.declared.Understood.{Understood}
-use Rattle.understanding.specs.declared.Understood.TheVariants.{As, Refused}
 
 -- 22 and 72
-abbrev pub understood_by : Option Response → Option Command → Understood
-understood_by (some cause) x = Refused cause
-understood_by none (some c) = As c
-understood_by none none = Refused CommandUnknown
+abbrev pub understood_by : Option Response → Option Command → Result Command Response
+understood_by (Some cause) x = Err cause
+understood_by None (Some c) = Ok c
+understood_by None None = Err CommandUnknown
 
-unfoldable pub understood_as : List Command → Call → Understood
+unfoldable pub understood_as : List Command → Call → Result Command Response
 understood_as served call = understood_by (first_cause (rows_understood served call)) (command_of served call.command)
 
 -- 113, first: the ISN that the call gives is none of the file's

@@ -6,35 +6,27 @@ ghost use Rattle.std.specs.Prelude.{◌≡◌};
 ghost use Rattle.nucleus.specs.Commands.{direct_commands, one_of, at_given_isn};
 ghost use Rattle.understanding.specs.Understanding.{understood_as, isn_refused};
 
-use codes::Decoded;
 use nucleus::{Call, Command, MAX_USERS, Response};
 
-// What the command and the user of a call are taken for.
-#[derive(Clone, Copy)]
-pub enum Understood {
-    As(Command),
-    Refused(Response),
-}
-
 // The command of a call, or the cause that refuses it.
-pub fn understand(call: Call) -> Understood
+pub fn understand(call: Call) -> Result<Command, Response>
     ensures { result ≡ understood_as direct_commands call }
 {
     let letters = call.command;
     let decoded = codes::command_of(letters);
-    let Decoded::Known(command) = decoded else {
-        return Understood::Refused(Response::CommandUnknown);
+    let Some(command) = decoded else {
+        return Err(Response::CommandUnknown);
     };
     if !options::has_option(command, call.option) {
-        return Understood::Refused(Response::CommandUnknown);
+        return Err(Response::CommandUnknown);
     }
     if call.user < 1 {
-        return Understood::Refused(Response::UserUnknown);
+        return Err(Response::UserUnknown);
     }
     if MAX_USERS < call.user as usize {
-        return Understood::Refused(Response::UserUnknown);
+        return Err(Response::UserUnknown);
     }
-    Understood::As(command)
+    Ok(command)
 }
 
 // Commands about the ISN that the call gives.

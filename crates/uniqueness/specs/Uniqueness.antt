@@ -1,12 +1,10 @@
 -- The row of response 198 over numbers and slices: what `taken` is where a call and a share give it the numbers.
-use Rattle.std.specs.Prelude.{ℕ, Bool, false, not, ◌&&◌, ◌||◌, List, eqb}
+use Rattle.std.specs.Prelude.{ℕ, Bool, false, not, ◌&&◌, ◌||◌, List, eqb, Option, Some, None}
 use Rattle.lists.specs.Folds.{any}
 use Rattle.lists.specs.Numbers.{numbers}
 use Rattle.definition.specs.Table.{field_at, field_count, is_unique}
 use Rattle.definition.specs.declared.File.{File}
 use Rattle.records.specs.Records.{field_offset}
-use Rattle.records.specs.declared.Found.{Found}
-use Rattle.records.specs.declared.Found.TheVariants.{At, Nowhere}
 use Rattle.elements.specs.Elements.{places}
 use Rattle.entries.specs.Entries.{entries}
 use Rattle.store.specs.Store.{field_value}
@@ -14,9 +12,9 @@ use Rattle.search.specs.Search.{elsewhere}
 use Rattle.images.specs.Images.{image_has}
 
 -- whether a field that was found is the one at a place
-abbrev pub is_place : ℕ → Found → Bool
-is_place k (At j) = eqb k j
-is_place k Nowhere = false
+abbrev pub is_place : ℕ → Option ℕ → Bool
+is_place k (Some j) = eqb k j
+is_place k None = false
 
 -- "N1 and N2 judge every unique field, A1 the named ones"
 abbrev pub is_judged : File → Bool → List ℕ → ℕ → Bool

@@ -12,13 +12,12 @@ ghost use Rattle.uniqueness.specs.Uniqueness.{is_place, is_judged, value_taken, 
 use definition::{FieldOption, File};
 use elements::ELEMENT;
 use nucleus::Call;
-use records::Found;
 use shares::Share;
 
-fn is_place(k: usize, found: Found) -> bool
+fn is_place(k: usize, found: Option<usize>) -> bool
     ensures { result ≡ is_place k found }
 {
-    let Found::At(j) = found else {
+    let Some(j) = found else {
         return false;
     };
     k == j

@@ -1,8 +1,7 @@
 -- The rows of A1 are those of its chain; where none refuses, a record is there.
 -- Assumes nothing.
-use Rattle.std.specs.Prelude.{ℕ, ◌≡◌, true, List, [], ◌∷◌, ◌++◌}
+use Rattle.std.specs.Prelude.{ℕ, ◌≡◌, true, List, [], ◌∷◌, ◌++◌, None}
 use Rattle.std.proofs.Math.Path.{refl}
-use Rattle.std.proofs.Math.Option.{none}
 use Rattle.definition.specs.declared.File.{File}
 use Rattle.store.specs.Store.{has_record}
 use Rattle.nucleus.specs.Rows.{first_cause}
@@ -19,7 +18,7 @@ module _ (f : File) (part : List ℕ) (call : Call) (x : Share) (queue : List �
   unfolding a1_cause
   a1_cause_is = refl
 
-  pub amend_there : first_cause (rows_amended f part call x queue room images width format buffer) ≡ none → has_record f part call.isn ≡ true
+  pub amend_there : first_cause (rows_amended f part call x queue room images width format buffer) ≡ None → has_record f part call.isn ≡ true
   amend_there e =
       let last = row_taken f part call x queue room images width format buffer ∷ [] in
       change_there f part call x queue room last (last_passed (row_scratch f ∷ rows_brought f format buffer) (rows_changed f part call x queue room ++ last) e)

@@ -13,7 +13,7 @@ ghost use Rattle.update_rows.specs.UpdateRows.{rows_amended};
 
 use definition::{File, MAX_RECORD_LENGTH};
 use nucleus::{Call, Response};
-use shares::{Share, Verdict};
+use shares::Share;
 
 // Makes a record over a copy of the old one, with the named fields replaced.
 fn replace(f: File, old: &[u8], format: &[u8], buffer: &[u8], content: &mut [u8])
@@ -92,19 +92,19 @@ pub fn amendable(
     images: &[u8],
     format: &[u8],
     buffer: &[u8],
-) -> Verdict
+) -> Result<(), Response>
     ensures { result ≡ verdict (first_cause (rows_amended f part.now call share queue.now most images.now width format.now buffer.now)) }
 {
     let storable = formats::storable(f, format, buffer);
-    if let Verdict::Refused(cause) = storable {
-        return Verdict::Refused(cause);
+    if let Err(cause) = storable {
+        return Err(cause);
     }
     let allowed = change_rows::changeable(call, most, share, f, part, queue);
-    if let Verdict::Refused(cause) = allowed {
-        return Verdict::Refused(cause);
+    if let Err(cause) = allowed {
+        return Err(cause);
     }
     if value_taken(call, width, share, f, part, queue, images, format, buffer) {
-        return Verdict::Refused(Response::ValueTaken);
+        return Err(Response::ValueTaken);
     }
-    Verdict::Passed
+    Ok(())
 }

@@ -8,7 +8,7 @@ ghost use Rattle.shares.specs.Outcomes.{put_part, changed_done, changed_queue, c
 
 use definition::File;
 use nucleus::Call;
-use shares::{Done, Share, Verdict};
+use shares::{Done, Share};
 
 pub fn a1(
     call: Call,
@@ -31,7 +31,7 @@ pub fn a1(
     let verdict = update_rows::amendable(
         call, most, width, share, f, part, queue, images, format, buffer,
     );
-    if let Verdict::Refused(cause) = verdict {
+    if let Err(cause) = verdict {
         return shares::refused(cause, share);
     }
     let held = keeping::keep_record(call, width, clock, share, f, part, queue, images, call.isn);

@@ -1,10 +1,10 @@
 -- What the rows of 11 and 12 come to, test by test; and what a nucleus that passes them has.
 -- Assumes nothing.
-use Rattle.std.specs.Prelude.{ℕ, ◌≡◌, Bool, true, ◌&&◌, List, [], ◌∷◌, leb}
+use Rattle.nucleus.specs.declared.Response.{Response}
+use Rattle.std.specs.Prelude.{ℕ, ◌≡◌, Bool, true, ◌&&◌, List, [], ◌∷◌, leb, None, Ok, Err}
 use Rattle.std.proofs.Math.Path.{sym}
 use Rattle.std.proofs.Common.{◌∙◌}
 use Rattle.std.proofs.Math.Bool.{false, not, and_assoc}
-use Rattle.std.proofs.Math.Option.{none}
 use Rattle.std.proofs.lemmas.Bool.{not-false}
 use Rattle.lists.specs.Tests.{and-false}
 use Rattle.lists.specs.Folds.{all}
@@ -17,10 +17,8 @@ use Rattle.nucleus.specs.WellMade.{too_short, well_made, entry_made, user_made, 
 use Rattle.nucleus.specs.Rows.{Row, row, first_cause, rows_usable}
 use Rattle.nucleus.specs.declared.Response.TheVariants.{BufferTooShort, StateInvalid}
 use Rattle.waiters_made.specs.Waiting.{waiters_fit, waiters_judged}
-use Rattle.shares.specs.Shares.{verdict}
+use Rattle.shares.specs.Shares.{verdict, Verdict}
 use Rattle.shares.proofs.Laws.{row_passed}
-use Rattle.shares.specs.declared.Verdict.{Verdict}
-use Rattle.shares.specs.declared.Verdict.TheVariants.{Passed, Refused}
 
 fails_left : (a b : Bool) → a ≡ false → (a && b) ≡ false
 fails_left a b e = rw e
@@ -42,20 +40,20 @@ module _ (capacity : ℕ) (n : Nucleus) where
   short = too_short d capacity n.store n.queue n.images
 
   -- ---- the rows, one after another
-  pub table_refused : valid d ≡ false → Refused StateInvalid ≡ judged
+  pub table_refused : valid d ≡ false → Err StateInvalid ≡ judged
   unfolding rows_usable
   table_refused v = rw v
 
   module _ (v : valid d ≡ true) where
-    pub sizes_refused : short ≡ true → Refused BufferTooShort ≡ judged
+    pub sizes_refused : short ≡ true → Err BufferTooShort ≡ judged
     unfolding rows_usable
     sizes_refused s = rw (v, s)
 
-    pub state_refused : short ≡ false → well_made capacity n ≡ false → Refused StateInvalid ≡ judged
+    pub state_refused : short ≡ false → well_made capacity n ≡ false → Err StateInvalid ≡ judged
     unfolding rows_usable
     state_refused s w = rw (v, s, w)
 
-    pub state_passed : short ≡ false → well_made capacity n ≡ true → Passed ≡ judged
+    pub state_passed : short ≡ false → well_made capacity n ≡ true → (Ok tt) ≡ judged
     unfolding rows_usable
     state_passed s w = rw (v, s, w)
 
@@ -96,7 +94,7 @@ module _ (capacity : ℕ) (n : Nucleus) where
   all_made v c r e u a m w = rw (v, c, r, e, u, a, m) (sym (waiters_judged n) ∙ w)
 
 -- ---- what a nucleus that is usable has
-module _ (capacity : ℕ) (n : Nucleus) (usable : first_cause (rows_usable capacity n) ≡ none) where
+module _ (capacity : ℕ) (n : Nucleus) (usable : first_cause (rows_usable capacity n) ≡ None) where
   abbrev rest : List Row
   rest = row BufferTooShort (too_short n.state.definition capacity n.store n.queue n.images) ∷ row StateInvalid (not (well_made capacity n)) ∷ []
 

@@ -10,7 +10,6 @@ ghost use Rattle.usability.specs.Sizes.{too_short_for};
 
 use definition::Definition;
 use nucleus::{MAX_CAPACITY, Response, State};
-use shares::Verdict;
 
 // A lent buffer is too short, or the capacity is not one that a queue may have. Of the queue only the number of its entries is looked at.
 pub fn too_short_for(
@@ -44,41 +43,41 @@ fn too_short(d: Definition, capacity: usize, store: &[u8], queue: &[u64], images
 }
 
 // The table first, since sizes mean nothing where it is invalid; then the sizes; then the parts of the state.
-pub fn usable(state: State, capacity: usize, store: &[u8], queue: &[u64], images: &[u8]) -> Verdict
+pub fn usable(state: State, capacity: usize, store: &[u8], queue: &[u64], images: &[u8]) -> Result<(), Response>
     ensures { result ≡ verdict (first_cause (rows_usable capacity (nucleus state store.now queue.now images.now))) }
 {
     let d = state.definition;
     if !validity::valid(d) {
-        return Verdict::Refused(Response::StateInvalid);
+        return Err(Response::StateInvalid);
     }
     if too_short(d, capacity, store, queue, images) {
-        return Verdict::Refused(Response::BufferTooShort);
+        return Err(Response::BufferTooShort);
     }
     let count = state.count;
     if capacity < count {
-        return Verdict::Refused(Response::StateInvalid);
+        return Err(Response::StateInvalid);
     }
     if repeats::repeated(queue, count) {
-        return Verdict::Refused(Response::StateInvalid);
+        return Err(Response::StateInvalid);
     }
     let users = state.users;
     if !entry_tables::entries_made(d, users, queue, count) {
-        return Verdict::Refused(Response::StateInvalid);
+        return Err(Response::StateInvalid);
     }
     if !well_made::users_made(users, state.clock) {
-        return Verdict::Refused(Response::StateInvalid);
+        return Err(Response::StateInvalid);
     }
     let assigned = state.last_assigned;
     if !assigned_isns::assigned_made(d, assigned) {
-        return Verdict::Refused(Response::StateInvalid);
+        return Err(Response::StateInvalid);
     }
     let et_data = state.et_data;
     if !well_made::data_made(et_data) {
-        return Verdict::Refused(Response::StateInvalid);
+        return Err(Response::StateInvalid);
     }
     let line = state.wait_queue;
     if !waiters_made::waiters_made(users, line, queue, count) {
-        return Verdict::Refused(Response::StateInvalid);
+        return Err(Response::StateInvalid);
     }
-    Verdict::Passed
+    Ok(())
 }

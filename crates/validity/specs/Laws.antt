@@ -1,6 +1,6 @@
 -- What a valid definition has, for callers: its files are valid, their numbers differ, and its sizes.
 -- Assumes nothing.
-use Rattle.std.specs.Prelude.{ℕ, ◌≤◌, ◌<◌, ◌≡◌, refl, true, ltb, length}
+use Rattle.std.specs.Prelude.{ℕ, ◌≤◌, ◌<◌, ◌≡◌, refl, true, ltb, length, Option, Some, None}
 use Rattle.std.proofs.Common.{mul-le-mul, arith, sym, ap, get_or-take, length-take-le, ltb-true, ltb-false}
 use Rattle.std.proofs.lemmas.Bool.{eqb-false}
 use Rattle.lists.specs.Tests.{Outcome, holds, fails, outcome, within, within_least, and_left, and_right}
@@ -11,8 +11,6 @@ use Rattle.definition.specs.declared.Definition.{Definition}
 use Rattle.records.specs.Records.{slot_length, file_size}
 use Rattle.layout.specs.Layout.{store_size, place}
 use Rattle.layout.specs.Laws.{store_size_most, place_found, place_nowhere}
-use Rattle.records.specs.declared.Found.{Found}
-use Rattle.records.specs.declared.Found.TheVariants.{At, Nowhere}
 use Rattle.file_validity.specs.FileValidity.{file_valid}
 use Rattle.file_validity.proofs.Laws.{ValidFile, valid_file}
 use Rattle.validity.specs.Validity.{valid}
@@ -48,19 +46,19 @@ module _ (d : Definition) (s : DefinitionShape d) (v : valid d ≡ true) where
       eqb-false _ _ (rw (get_or-take (file_count d) d.files i beyond m, get_or-take (file_count d) d.files j beyond h) at unlike)
 
   -- so a file's number leads to its place
-  pub place_own : (i : ℕ) → i < file_count d → place d (file_at d i).number ≡ At i
+  pub place_own : (i : ℕ) → i < file_count d → place d (file_at d i).number ≡ Some i
   place_own i h = go (place d (file_at d i).number) refl
     where
-      go : (r : Found) → place d (file_at d i).number ≡ r → r ≡ At i
-      go (At j) e =
+      go : (r : Option ℕ) → place d (file_at d i).number ≡ r → r ≡ Some i
+      go (Some j) e =
           let p = place_found d s (file_at d i).number j e in
-          ap At (same j p.0 p.1 (outcome (ltb i j)) (outcome (ltb j i)))
+          ap Some (same j p.0 p.1 (outcome (ltb i j)) (outcome (ltb j i)))
         where
           same : (j : ℕ) → j < file_count d → (file_at d j).number ≡ (file_at d i).number → Outcome (ltb i j) → Outcome (ltb j i) → j ≡ i
           same j k q (holds a) b = absurd (numbers_apart i j (ltb-true i j a) k (sym q))
           same j k q (fails a) (holds b) = absurd (numbers_apart j i (ltb-true j i b) h q)
           same j k q (fails a) (fails b) = omega (arith, ltb-false i j a, ltb-false j i b)
-      go Nowhere e = absurd (place_nowhere d s (file_at d i).number i e h refl)
+      go None e = absurd (place_nowhere d s (file_at d i).number i e h refl)
 
   -- ---- sizes
   pub file_size_valid : (i : ℕ) → i < file_count d → file_size (file_at d i) ≤ 2100735

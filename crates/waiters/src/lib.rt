@@ -8,7 +8,6 @@ ghost use Rattle.nucleus.specs.Waiters.{in_line, first_in_line, by_l4, same_plac
 
 use entries::Entry;
 use nucleus::{Call, Command, MAX_USERS, WaitQueue};
-use queue::Lookup;
 use removal::Removal;
 
 // Whether the user waits.
@@ -20,7 +19,7 @@ pub fn in_line(line: WaitQueue, user: u8) -> bool
 }
 
 // The first who waits for the file and ISN.
-pub fn first_in_line(line: WaitQueue, file: u8, isn: u16) -> Lookup
+pub fn first_in_line(line: WaitQueue, file: u8, isn: u16) -> Option<(usize, Entry)>
     ensures { result ≡ first_in_line line file isn }
 {
     let places = line.places;

@@ -1,9 +1,9 @@
 -- `add_at` meets its contract: the rows 47, 70 and 198, and then the record, its entry and the image.
 -- Assumes nothing.
+use Rattle.std.specs.Prelude.{Some, None}
 use Prim.Native.Nat.{◌≤◌}
 use mathlib.Core.Path.{◌≡◌, refl, sym, ◌∙◌}
 use mathlib.Core.Bool.{false}
-use mathlib.Core.Option.{none, some}
 use lib.ListN.{length, take}
 use lib.Seq.{length-take-le}
 use native.Mathlib.Omega.{arith}
@@ -13,12 +13,12 @@ use Rattle.shares.specs.Chains.{rows_room, added, taken}
 use Rattle.new_records.specs.Laws.{new_length_most, new_is_added}
 use Rattle.adding.specs.Laws.{no_room_left, room_left}
 use Rattle.adding.proofs.add_at.Goals as goal
-use Rattle.adding.proofs.add_at.Goals.{After-new_record-n, After-taken, In-Refused, In_default}
+use Rattle.adding.proofs.add_at.Goals.{After-new_record-n, After-taken, In-Err, In_default}
 
-no_room : (c : In-Refused) → let a = c.args in first_cause (rows_room a.call a.share a.queue.now a.most a.isn) ≡ some c.in-Refused.cause
-no_room c = verdict_refused _ _ (sym c.room-room.ensures ∙ c.in-Refused.is)
+no_room : (c : In-Err) → let a = c.args in first_cause (rows_room a.call a.share a.queue.now a.most a.isn) ≡ Some c.in-Err.cause
+no_room c = verdict_refused _ _ (sym c.room-room.ensures ∙ c.in-Err.is)
 
-has_room : (c : In_default) → let a = c.args in first_cause (rows_room a.call a.share a.queue.now a.most a.isn) ≡ none
+has_room : (c : In_default) → let a = c.args in first_cause (rows_room a.call a.share a.queue.now a.most a.isn) ≡ None
 has_room c = verdict_passed _ (sym c.room-room.ensures ∙ c.in_default.is)
 
 -- what the scratch begins with
@@ -37,10 +37,10 @@ judged : (c : After-taken) → let a = c.args in
     c.taken.result ≡ taken a.f a.part.now a.call a.share a.queue.now a.images.now a.width false a.format.now a.isn (added a.f a.part.now a.format.now a.buffer.now a.isn)
 judged c = rw (← (made_is c)) c.taken.ensures
 
-pub returns-in-Refused : goal.returns-in-Refused
-returns-in-Refused c =
+pub returns-in-Err : goal.returns-in-Err
+returns-in-Err c =
     let a = c.args in
-    let e = no_room_left a.f a.part.now a.call a.share a.queue.now a.images.now a.width a.most a.format.now a.buffer.now a.isn _ (no_room (goal.at.returns-in-Refused c).In-Refused) in
+    let e = no_room_left a.f a.part.now a.call a.share a.queue.now a.images.now a.width a.most a.format.now a.buffer.now a.isn _ (no_room (goal.at.returns-in-Err c).In-Err) in
     rw e (record { value = c.refused.ensures; part_after = refl; queue_after = refl; images_after = refl })
 
 pub slice_bounds-scratch-end : goal.slice_bounds-scratch-end

@@ -1,32 +1,31 @@
 -- `n1` meets its contract: its rows in the table's order, and then the record at the ISN that it found.
 -- Assumes nothing.
+use Rattle.std.specs.Prelude.{Some, None}
 use mathlib.Core.Path.{◌≡◌, refl, sym, ◌∙◌}
-use mathlib.Core.Option.{none, some}
 use Rattle.nucleus.specs.Rows.{first_cause}
 use Rattle.shares.specs.Causes.{verdict_refused, verdict_passed}
-use Rattle.search.specs.declared.Occupied.TheVariants.{At, Nowhere}
 use Rattle.shares.specs.Chains.{free_isn}
 use Rattle.adding.specs.Adding.{rows_beginning}
 use Rattle.adding.specs.Laws.{record_small, n1_begins, n1_full, n1_ends}
 use Rattle.adding.proofs.n1.Goals as goal
-use Rattle.adding.proofs.n1.Goals.{In-At, In-Refused, In_default, In_default-free}
+use Rattle.adding.proofs.n1.Goals.{In-Some, In-Err, In_default, In_default-free}
 
-begun : (c : In_default) → let a = c.args in first_cause (rows_beginning a.f a.format.now a.buffer.now) ≡ none
+begun : (c : In_default) → let a = c.args in first_cause (rows_beginning a.f a.format.now a.buffer.now) ≡ None
 begun c = verdict_passed _ (sym c.storable-brought.ensures ∙ c.in_default.is)
 
-refused_first : (c : In-Refused) → let a = c.args in first_cause (rows_beginning a.f a.format.now a.buffer.now) ≡ some c.in-Refused.response
-refused_first c = verdict_refused _ _ (sym c.storable-brought.ensures ∙ c.in-Refused.is)
+refused_first : (c : In-Err) → let a = c.args in first_cause (rows_beginning a.f a.format.now a.buffer.now) ≡ Some c.in-Err.response
+refused_first c = verdict_refused _ _ (sym c.storable-brought.ensures ∙ c.in-Err.is)
 
-found : (c : In-At) → let a = c.args in free_isn a.f a.part.now a.call a.share a.queue.now ≡ At c.in-At.isn
-found c = sym c.free_isn-free.ensures ∙ c.in-At.is
+found : (c : In-Some) → let a = c.args in free_isn a.f a.part.now a.call a.share a.queue.now ≡ Some c.in-Some.isn
+found c = sym c.free_isn-free.ensures ∙ c.in-Some.is
 
-full : (c : In_default-free) → let a = c.args in free_isn a.f a.part.now a.call a.share a.queue.now ≡ Nowhere
+full : (c : In_default-free) → let a = c.args in free_isn a.f a.part.now a.call a.share a.queue.now ≡ None
 full c = sym c.free_isn-free.ensures ∙ c.in_default-free.is
 
-pub returns-in-Refused : goal.returns-in-Refused
-returns-in-Refused c =
+pub returns-in-Err : goal.returns-in-Err
+returns-in-Err c =
     let a = c.args in
-    rw (n1_begins a.f a.part.now a.call a.share a.queue.now a.images.now a.width a.most a.format.now a.buffer.now (free_isn a.f a.part.now a.call a.share a.queue.now) _ (refused_first (goal.at.returns-in-Refused c).In-Refused)) (record { value = c.refused.ensures; part_after = refl; queue_after = refl; images_after = refl })
+    rw (n1_begins a.f a.part.now a.call a.share a.queue.now a.images.now a.width a.most a.format.now a.buffer.now (free_isn a.f a.part.now a.call a.share a.queue.now) _ (refused_first (goal.at.returns-in-Err c).In-Err)) (record { value = c.refused.ensures; part_after = refl; queue_after = refl; images_after = refl })
 
 pub returns-in_default-free : goal.returns-in_default-free
 returns-in_default-free c =
@@ -41,4 +40,4 @@ add_at-requires c =
 pub returns : goal.returns
 returns c =
     let a = c.args in
-    rw (n1_ends a.f a.part.now a.call a.share a.queue.now a.images.now a.width a.most a.format.now a.buffer.now (free_isn a.f a.part.now a.call a.share a.queue.now) (begun (goal.at.returns c).In_default) _ (found (goal.at.returns c).In-At), found (goal.at.returns c).In-At) c.add_at.ensures
+    rw (n1_ends a.f a.part.now a.call a.share a.queue.now a.images.now a.width a.most a.format.now a.buffer.now (free_isn a.f a.part.now a.call a.share a.queue.now) (begun (goal.at.returns c).In_default) _ (found (goal.at.returns c).In-Some), found (goal.at.returns c).In-Some) c.add_at.ensures

@@ -1,5 +1,6 @@
 -- `first_free` meets its contract. The loop's invariant: what is sought from the start is sought from here on.
 -- Assumes nothing.
+use Rattle.std.specs.Prelude.{Some}
 use Prim.Native.Nat.{◌+◌, ◌-◌}
 use native.Mathlib.Omega.{arith}
 use mathlib.Core.Path.{◌≡◌, refl, sym, ◌∙◌}
@@ -8,7 +9,6 @@ use Rattle.lists.specs.Numbers.{numbers, before_more, before_none}
 use Rattle.entries.specs.Entries.{entries}
 use Rattle.store.specs.Slots.{slot_next}
 use Rattle.search.specs.Search.{first_of}
-use Rattle.search.specs.declared.Occupied.TheVariants.{At}
 use Rattle.assignment.specs.Assignment.{free_at}
 use Rattle.assignment.specs.Laws.{offset_most, free_here}
 use Rattle.assignment.proofs.first_free.Goals as goal
@@ -17,7 +17,7 @@ use Rattle.assignment.proofs.first_free.Goals.{After-is_free}
 -- what is sought from here on: this ISN if it is free, or one behind it
 turn : (c : After-is_free) → let a = c.args in
     first_of (free_at a.room a.size a.part.now a.file (entries a.queue.now a.count)) (numbers (a.end - a.from) a.from)
-    ≡ cond c.is_free.result (At c.loop-isn.isn) (first_of (free_at a.room a.size a.part.now a.file (entries a.queue.now a.count)) (numbers (a.end - (c.loop-isn.isn + 1)) (c.loop-isn.isn + 1)))
+    ≡ cond c.is_free.result (Some c.loop-isn.isn) (first_of (free_at a.room a.size a.part.now a.file (entries a.queue.now a.count)) (numbers (a.end - (c.loop-isn.isn + 1)) (c.loop-isn.isn + 1)))
 turn c =
     let a = c.args in
     c.loop-isn.invariant.3 ∙ rw (before_more c.loop-isn.isn a.end c.loop-isn-test.true, free_here a.room a.size a.part.now a.file (entries a.queue.now a.count) c.loop-isn.isn c.loop-isn.at c.loop-isn.invariant.0 c.loop-isn.invariant.2, ← c.is_free.ensures)

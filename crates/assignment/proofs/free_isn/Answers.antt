@@ -26,10 +26,10 @@ behind c =
 pub first_free-later-requires : goal.first_free-later-requires
 first_free-later-requires c = record { room_in_bounds = omega (arith, c.least-room.ensures); le_size = omega (arith, c.slot_length-size.ensures); size_bound = short (goal.at.first_free-later-requires c).After-least-room; le_from = omega arith; from_bound = omega arith; end_bound = omega arith }
 
-pub returns-in-At : goal.returns-in-At
-returns-in-At c =
+pub returns-in-Some : goal.returns-in-Some
+returns-in-Some c =
     let a = c.args in
-    sym (found_behind a.f a.part.now a.call a.share a.queue.now _ (sym (behind (goal.at.returns-in-At c).After-first_free-later) ∙ c.in-At.is))
+    sym (found_behind a.f a.part.now a.call a.share a.queue.now _ (sym (behind (goal.at.returns-in-Some c).After-first_free-later) ∙ c.in-Some.is))
 
 pub first_free-requires : goal.first_free-requires
 first_free-requires c = record { room_in_bounds = omega (arith, c.least-room.ensures); le_size = omega (arith, c.slot_length-size.ensures); size_bound = short (goal.at.first_free-requires c).After-least-room; le_from = omega arith; from_bound = omega arith; end_bound = omega arith }

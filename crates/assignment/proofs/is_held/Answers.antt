@@ -9,8 +9,8 @@ use Rattle.assignment.proofs.is_held.Goals.{After-holder-found}
 found : (c : After-holder-found) → let a = c.args in is_held c.holder-found.result ≡ any (is_of a.file a.isn) (entries a.queue.now a.count)
 found c = let a = c.args in ap is_held c.holder-found.ensures ∙ held_any a.file a.isn (entries a.queue.now a.count)
 
-pub returns-in-Held : goal.returns-in-Held
-returns-in-Held c = sym (ap is_held c.in-Held.is) ∙ found (goal.at.returns-in-Held c).After-holder-found
+pub returns-in-Some : goal.returns-in-Some
+returns-in-Some c = sym (ap is_held c.in-Some.is) ∙ found (goal.at.returns-in-Some c).After-holder-found
 
-pub returns-in-Free : goal.returns-in-Free
-returns-in-Free c = sym (ap is_held c.in-Free.is) ∙ found (goal.at.returns-in-Free c).After-holder-found
+pub returns-in-None : goal.returns-in-None
+returns-in-None c = sym (ap is_held c.in-None.is) ∙ found (goal.at.returns-in-None c).After-holder-found

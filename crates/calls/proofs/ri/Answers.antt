@@ -1,4 +1,5 @@
 -- `ri` meets its contract: for ISN 0 all entries that are not changed go, and for any other it is a command about a file. Assumes nothing.
+use Rattle.std.specs.Prelude.{Option}
 use Prim.Native.Nat.{ℕ}
 use mathlib.Core.Path.{◌≡◌, sym, ap, ◌∙◌}
 use mathlib.Core.Bool.{true, false}
@@ -7,7 +8,6 @@ use lib.Dec.{eqb}
 use borrow.Author.Tests.{eq-eqb, ne_eqb}
 use Rattle.lists.specs.Tests.{cond}
 use Rattle.definition.specs.declared.Definition.{Definition}
-use Rattle.records.specs.declared.Found.{Found}
 use Rattle.layout.specs.Layout.{image_length, place}
 use Rattle.nucleus.specs.declared.Call.{Call}
 use Rattle.nucleus.specs.declared.Command.TheVariants.{Ri}
@@ -33,7 +33,7 @@ module _ (call : Call) (most clock : ℕ) (x : Share) (d : Definition) (store qu
   all_released zero width same_width_lem made queue' images' same_done same_queue same_images =
       (λ i. left (same_done i) store (same_queue i) (same_images i) buffer) ∙ ap of_all same_width_lem ∙ of_ri zero
 
-  one_released : eqb call.isn 0 ≡ false → (found : Found) → found ≡ place d call.file → (l : Left) → l ≡ in_file call most clock x d store queue images format buffer found Ri
+  one_released : eqb call.isn 0 ≡ false → (found : Option ℕ) → found ≡ place d call.file → (l : Left) → l ≡ in_file call most clock x d store queue images format buffer found Ri
       → l ≡ performed call most clock x d store queue images format buffer Ri
   one_released one found same_found l e = e ∙ ap (λ at. in_file call most clock x d store queue images format buffer at Ri) same_found ∙ of_ri one
 

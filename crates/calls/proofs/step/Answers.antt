@@ -1,11 +1,11 @@
 -- `step` meets its contract: each row that refuses, and the command where none does. Assumes nothing.
+use Rattle.std.specs.Prelude.{None, Ok}
 use mathlib.Core.Path.{◌≡◌, sym, ap, ◌∙◌}
 use native.Mathlib.Omega.{arith}
 use Prim.Native.Nat.{ℕ, ◌≤◌}
 use lib.ListN.{length}
 use mathlib.Core.Bool.{false}
 use mathlib.Core.List.{List}
-use mathlib.Core.Option.{none}
 use Rattle.lists.specs.Tests.{within_least, within_most}
 use Rattle.layout.specs.Layout.{store_size}
 use Rattle.nucleus.specs.Commands.{direct_commands}
@@ -21,7 +21,6 @@ use Rattle.usability.proofs.Laws.{usable_valid, usable_long}
 use Rattle.usability.specs.Sizes.{store_long, queue_long}
 use Rattle.understanding.specs.Understanding.{understood_as}
 use Rattle.understanding.proofs.Laws.{refused_cause, understood_plain}
-use Rattle.understanding.specs.declared.Understood.TheVariants.{As}
 use Rattle.calls.specs.Outcome.{outcome}
 use Rattle.calls.specs.declared.Outcome.{Outcome}
 use Rattle.calls.specs.StepLaws.{step_unusable, step_misunderstood, refused_through, performed_through}
@@ -38,12 +37,12 @@ abbrev begun : (c : After-admit-admitted) → Nucleus
 begun c = nucleus c.args.state c.args.store.now c.args.queue.now c.args.images.now
 
 abbrev asked : (c : After-admit-admitted) → Command
-asked c = c.in-As.command
+asked c = c.in-Ok.command
 
-understood : (c : After-admit-admitted) → understood_as direct_commands c.args.call ≡ As (asked c)
-understood c = sym c.understand-understood.ensures ∙ c.in-As.is
+understood : (c : After-admit-admitted) → understood_as direct_commands c.args.call ≡ Ok (asked c)
+understood c = sym c.understand-understood.ensures ∙ c.in-Ok.is
 
-usable : (c : After-admit-admitted) → first_cause (rows_usable c.args.capacity (begun c)) ≡ none
+usable : (c : After-admit-admitted) → first_cause (rows_usable c.args.capacity (begun c)) ≡ None
 usable c = verdict_passed (first_cause (rows_usable c.args.capacity (begun c))) (sym c.usable-usable.ensures ∙ c.in_default.is)
 
 user_in : (c : After-admit-admitted) → (1 ≤ c.args.call.user) × (c.args.call.user ≤ 32)
@@ -61,31 +60,31 @@ store_in c = omega (arith, store_long _ _ _ _ _ (long c), c.admit-admitted.auto.
 queue_in : (c : After-admit-admitted) → c.args.capacity ≤ length c.admit-admitted.new.queue
 queue_in c = omega (arith, queue_long _ _ _ _ _ (long c), c.admit-admitted.auto.queue)
 
-pub returns-in-Refused : goal.returns-in-Refused
-returns-in-Refused c =
+pub returns-in-Err : goal.returns-in-Err
+returns-in-Err c =
     let a = c.args in
     let n = nucleus a.state a.store.now a.queue.now a.images.now in
-    let cause = c.in-Refused.cause in
-    let e = verdict_refused (first_cause (rows_usable a.capacity n)) cause (sym c.usable-usable.ensures ∙ c.in-Refused.is) in
+    let cause = c.in-Err.cause in
+    let e = verdict_refused (first_cause (rows_usable a.capacity n)) cause (sym c.usable-usable.ensures ∙ c.in-Err.is) in
     given_back _ _ _ _ _ cause _ _ c.refused.ensures (sym (step_unusable a.capacity a.call a.format.now a.buffer.now n cause e))
 
-pub returns-in-Refused-understood : goal.returns-in-Refused-understood
-returns-in-Refused-understood c =
+pub returns-in-Err-understood : goal.returns-in-Err-understood
+returns-in-Err-understood c =
     let a = c.args in
     let n = nucleus a.state a.store.now a.queue.now a.images.now in
-    let cause = c.in-Refused-understood.cause in
+    let cause = c.in-Err-understood.cause in
     let fit = verdict_passed (first_cause (rows_usable a.capacity n)) (sym c.usable-usable.ensures ∙ c.in_default.is) in
-    let e = refused_cause direct_commands a.call cause (sym c.understand-understood.ensures ∙ c.in-Refused-understood.is) in
-    given_back _ _ _ _ _ cause _ _ c.refused-in-Refused-understood.ensures (sym (step_misunderstood a.capacity a.call a.format.now a.buffer.now n fit cause e))
+    let e = refused_cause direct_commands a.call cause (sym c.understand-understood.ensures ∙ c.in-Err-understood.is) in
+    given_back _ _ _ _ _ cause _ _ c.refused-in-Err-understood.ensures (sym (step_misunderstood a.capacity a.call a.format.now a.buffer.now n fit cause e))
 
-pub returns-in-Refused-verdict : goal.returns-in-Refused-verdict
-returns-in-Refused-verdict c =
+pub returns-in-Err-verdict : goal.returns-in-Err-verdict
+returns-in-Err-verdict c =
     let a = c.args in
-    let k = (goal.at.returns-in-Refused-verdict c).After-admit-admitted in
-    let cause = c.in-Refused-verdict.cause in
+    let k = (goal.at.returns-in-Err-verdict c).After-admit-admitted in
+    let cause = c.in-Err-verdict.cause in
     let e = c.admit-admitted.ensures a.state.et_data a.state.last_assigned in
-    given_back _ _ _ _ _ cause _ _ c.refused-in-Refused-verdict.ensures
-    (refused_through a.capacity a.call a.format.now a.buffer.now a.state a.store.now a.queue.now a.images.now _ _ _ _ _ (asked k) (usable k) (understood k) c.admit-admitted.result.verdict cause e c.in-Refused-verdict.is)
+    given_back _ _ _ _ _ cause _ _ c.refused-in-Err-verdict.ensures
+    (refused_through a.capacity a.call a.format.now a.buffer.now a.state a.store.now a.queue.now a.images.now _ _ _ _ _ (asked k) (usable k) (understood k) c.admit-admitted.result.verdict cause e c.in-Err-verdict.is)
 
 pub serve_lined-requires : goal.serve_lined-requires
 serve_lined-requires c =

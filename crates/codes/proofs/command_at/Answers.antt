@@ -1,5 +1,6 @@
 -- `command_at` meets its contract: each arm's place computes to its command.
 -- Assumes nothing.
+use Rattle.std.specs.Prelude.{Some, None}
 use Prim.Native.Nat.{◌≤◌}
 use native.Mathlib.Omega.{arith}
 use mathlib.Core.Path.{sym, ap}
@@ -7,7 +8,6 @@ use mathlib.Core.List.{map}
 use lib.ListN.{get_or-eq_default}
 use Rattle.nucleus.specs.Commands.{direct_commands}
 use Rattle.codes.specs.Codes.{command_at}
-use Rattle.codes.specs.declared.Decoded.TheVariants.{Known, Unknown}
 use Rattle.codes.proofs.command_at.Goals as goal
 
 pub returns-in-0 : goal.returns-in-0
@@ -70,4 +70,4 @@ pub returns-in_default : goal.returns-in_default
 unfolding command_at
 returns-in_default c =
     let end : 14 ≤ c.args.place = omega arith in
-    sym (get_or-eq_default (map Known direct_commands) Unknown end)
+    sym (get_or-eq_default (map Some direct_commands) None end)

@@ -7,7 +7,7 @@ use mathlib.Core.Bool.{Bool}
 use native.Mathlib.Omega.{arith}
 use Rattle.lists.specs.Tests.{eqbs}
 use Rattle.nucleus.specs.Commands.{direct_commands, code}
-use Rattle.codes.specs.Codes.{decoded, letters_at}
+use Rattle.codes.specs.Codes.{letters_at}
 use Rattle.codes.specs.Laws.{listed, letters_here, command_here, found_here, found_later, found_nowhere}
 use Rattle.codes.proofs.command_of.Goals as goal
 
@@ -24,7 +24,7 @@ returns-then-same_letters c =
     let letters = c.args.letters in
     let inside : i < 14 = omega arith in
     let yes = tested i _ letters _ inside c.letters_at.ensures c.same_letters.ensures ∙ c.if-same_letters.true in
-    c.command_at.ensures ∙ command_here i inside ∙ sym (ap decoded (c.loop-i.invariant.1 ∙ found_here letters direct_commands i inside yes))
+    c.command_at.ensures ∙ command_here i inside ∙ sym (c.loop-i.invariant.1 ∙ found_here letters direct_commands i inside yes)
 
 pub loop-i-preserved : goal.loop-i-preserved
 loop-i-preserved c =
@@ -37,4 +37,4 @@ loop-i-preserved c =
 pub returns : goal.returns
 returns c =
     let past : 14 ≤ c.loop-i.i = omega arith in
-    sym (ap decoded (c.loop-i.invariant.1 ∙ found_nowhere c.args.letters direct_commands c.loop-i.i past))
+    sym (c.loop-i.invariant.1 ∙ found_nowhere c.args.letters direct_commands c.loop-i.i past)

@@ -1,4 +1,5 @@
 -- `place_found` meets its contract: the file's part of the store lies where `file_part` has it. Assumes nothing.
+use Rattle.std.specs.Prelude.{Some}
 use Prim.Native.Nat.{ℕ, ◌+◌, ◌-◌, ◌*◌, ◌≤◌, ◌<◌}
 use native.Mathlib.Omega.{arith}
 use mathlib.Core.Path.{◌≡◌, sym, ap, subst, ◌∙◌}
@@ -11,7 +12,6 @@ use Rattle.definition.specs.declared.Definition.{Definition}
 use Rattle.definition.specs.declared.File.{File}
 use Rattle.definition.proofs.Known.{definition_known}
 use Rattle.records.specs.Records.{file_size}
-use Rattle.records.specs.declared.Found.TheVariants.{At}
 use Rattle.layout.specs.Layout.{file_offset, store_size, image_length, place}
 use Rattle.store.specs.Files.{file_part_is}
 use Rattle.entries.specs.Entries.{entries}
@@ -21,12 +21,12 @@ use Rattle.committed.specs.declared.Place.{Place}
 use Rattle.usability.specs.Parts.{store_size_bounded, found_inside, part_ends}
 use Rattle.committed_places.specs.Places.{place_found}
 use Rattle.committed_places.proofs.place_found.Goals as goal
-use Rattle.committed_places.proofs.place_found.Goals.{In-At}
+use Rattle.committed_places.proofs.place_found.Goals.{In-Some}
 
 -- an ISN that is none of the file's, and one that is
 module _ (d : Definition) (count number isn : ℕ) (store queue images : List ℕ) (i : ℕ) where
   abbrev placed : Place
-  placed = place_found d count number isn store queue images (At i)
+  placed = place_found d count number isn store queue images (Some i)
 
   below : isn < 1 → placed ≡ no_place
   unfolding place_found
@@ -43,25 +43,25 @@ module _ (d : Definition) (count number isn : ℕ) (store queue images : List �
   handed f width start size version same_file same_width_lem same_start same_size same_version least most p e =
       e ∙ rw (within_inside 1 (file_at d i).max_isn isn least most, file_part_is d i store, same_file, same_width_lem, same_start, same_size, same_version)
 
-shape : (c : In-At) → DefinitionShape c.args.d
+shape : (c : In-Some) → DefinitionShape c.args.d
 shape c = definition_known _ _ c.well_formed.0
 
-there : (c : In-At) → place c.args.d c.args.file ≡ At c.in-At.i
-there c = sym c.place-found.ensures ∙ c.in-At.is
+there : (c : In-Some) → place c.args.d c.args.file ≡ Some c.in-Some.i
+there c = sym c.place-found.ensures ∙ c.in-Some.is
 
 -- the file that is handed on
-file_is : (c : In-At) (f : File) → f ≡ file_or_none c.args.d c.in-At.i → f ≡ file_at c.args.d c.in-At.i
-file_is c f e = e ∙ file_or_none_at c.args.d c.in-At.i (found_inside c.args.d (shape c) _ _ (there c))
+file_is : (c : In-Some) (f : File) → f ≡ file_or_none c.args.d c.in-Some.i → f ≡ file_at c.args.d c.in-Some.i
+file_is c f e = e ∙ file_or_none_at c.args.d c.in-Some.i (found_inside c.args.d (shape c) _ _ (there c))
 
 -- the part begins at the file's offset, has the file's size and ends within the store
-ends : (c : In-At) (f : File) (start size : ℕ) → f ≡ file_or_none c.args.d c.in-At.i → start ≡ file_offset c.args.d c.in-At.i → size ≡ file_size f
-    → (size ≡ file_size (file_at c.args.d c.in-At.i)) × (start + size ≤ store_size c.args.d)
+ends : (c : In-Some) (f : File) (start size : ℕ) → f ≡ file_or_none c.args.d c.in-Some.i → start ≡ file_offset c.args.d c.in-Some.i → size ≡ file_size f
+    → (size ≡ file_size (file_at c.args.d c.in-Some.i)) × (start + size ≤ store_size c.args.d)
 ends c f start size same_file same_start same_size =
     let all = same_size ∙ ap file_size (file_is c f same_file) in
     (all, omega (arith, all, same_start, part_ends c.args.d (shape c) _ _ (there c)))
 
 -- and no store is too large for a number
-bounded : (c : In-At) → store_size c.args.d ≤ 16 * 267448335
+bounded : (c : In-Some) → store_size c.args.d ≤ 16 * 267448335
 bounded c = store_size_bounded c.args.d (shape c)
 
 pub returns-in_default : goal.returns-in_default
@@ -72,28 +72,28 @@ pub returns-then-isn-lt1 : goal.returns-then-isn-lt1
 returns-then-isn-lt1 c =
     let a = c.args in
     c.no_place-then-isn-lt1.ensures
-    ∙ sym (rw (there (goal.at.returns-then-isn-lt1 c).In-At) (below a.d a.count a.file a.isn a.store.now a.queue.now a.images.now c.in-At.i c.if-isn-lt1.true))
+    ∙ sym (rw (there (goal.at.returns-then-isn-lt1 c).In-Some) (below a.d a.count a.file a.isn a.store.now a.queue.now a.images.now c.in-Some.i c.if-isn-lt1.true))
 
 pub returns-then-f-isn : goal.returns-then-f-isn
 returns-then-f-isn c =
     let a = c.args in
-    let k = (goal.at.returns-then-f-isn c).In-At in
+    let k = (goal.at.returns-then-f-isn c).In-Some in
     let high = subst (λ (f : File). f.max_isn < a.isn) (file_is k _ c.file_at-f.ensures) c.if-f-isn.true in
-    c.no_place-then-f-isn.ensures ∙ sym (rw (there k) (above a.d a.count a.file a.isn a.store.now a.queue.now a.images.now c.in-At.i high))
+    c.no_place-then-f-isn.ensures ∙ sym (rw (there k) (above a.d a.count a.file a.isn a.store.now a.queue.now a.images.now c.in-Some.i high))
 
 pub overflow_add-end : goal.overflow_add-end
 overflow_add-end c =
-    let k = (goal.at.overflow_add-end c).In-At in
+    let k = (goal.at.overflow_add-end c).In-Some in
     omega (arith, ends k _ _ _ c.file_at-f.ensures c.file_offset-start.ensures c.file_size.ensures, bounded k)
 
 pub slice_bounds-version_place-end : goal.slice_bounds-version_place-end
 slice_bounds-version_place-end c =
-    let k = (goal.at.slice_bounds-version_place-end c).In-At in
+    let k = (goal.at.slice_bounds-version_place-end c).In-Some in
     omega (arith, ends k _ _ _ c.file_at-f.ensures c.file_offset-start.ensures c.file_size.ensures, c.requires)
 
 pub version_place-requires : goal.version_place-requires
 version_place-requires c =
-    let k = (goal.at.version_place-requires c).In-At in
+    let k = (goal.at.version_place-requires c).In-Some in
     let start = c.file_offset-start.result in
     let size = c.file_size.result in
     let cut = length-take (start + size - start) (drop start c.args.store.now) in
@@ -102,12 +102,12 @@ version_place-requires c =
 pub returns : goal.returns
 returns c =
     let a = c.args in
-    let k = (goal.at.returns c).In-At in
+    let k = (goal.at.returns c).In-Some in
     let f = file_is k _ c.file_at-f.ensures in
     let start = c.file_offset-start.result in
     let end = ends k _ _ _ c.file_at-f.ensures c.file_offset-start.ensures c.file_size.ensures in
-    let size : start + c.file_size.result - start ≡ file_size (file_at a.d c.in-At.i) = omega (arith, end) in
+    let size : start + c.file_size.result - start ≡ file_size (file_at a.d c.in-Some.i) = omega (arith, end) in
     let most = subst (λ (f : File). a.isn ≤ f.max_isn) f (omega (arith, c.if-f-isn.false)) in
     rw (there k)
-    (handed a.d a.count a.file a.isn a.store.now a.queue.now a.images.now c.in-At.i _ _ _ _ _ f c.image_length-width.ensures c.file_offset-start.ensures size
+    (handed a.d a.count a.file a.isn a.store.now a.queue.now a.images.now c.in-Some.i _ _ _ _ _ f c.image_length-width.ensures c.file_offset-start.ensures size
     c.committed_version-version.ensures (omega (arith, c.if-isn-lt1.false)) most _ c.version_place.ensures)

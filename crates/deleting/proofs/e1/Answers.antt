@@ -12,9 +12,9 @@ use Rattle.deleting.proofs.e1.Goals.{Start}
 cause_is : (c : Start) → let a = c.args in e1_cause a.call a.share a.queue.now a.f a.part.now a.most ≡ first_cause (rows_changed a.f a.part.now a.call a.share a.queue.now a.most)
 cause_is c = let a = c.args in e1_cause_is a.f a.part.now a.call a.share a.queue.now a.most
 
-pub returns-in-Refused : goal.returns-in-Refused
-returns-in-Refused c =
-    rw (cause_is (goal.at.returns-in-Refused c).Start ∙ verdict_refused _ _ (sym c.changeable-verdict.ensures ∙ c.in-Refused.is))
+pub returns-in-Err : goal.returns-in-Err
+returns-in-Err c =
+    rw (cause_is (goal.at.returns-in-Err c).Start ∙ verdict_refused _ _ (sym c.changeable-verdict.ensures ∙ c.in-Err.is))
     (record { value = c.refused.ensures; part_after = refl; queue_after = refl; images_after = refl })
 
 pub returns : goal.returns

@@ -3,4 +3,4 @@
 use Rattle.elements.proofs.length_of.Goals as goal
 
 pub returns : goal.returns
-returns c = rw c.in-At.is c.field_length.ensures
+returns c = rw c.in-Some.is c.field_length.ensures

@@ -11,7 +11,7 @@ use Rattle.elements.specs.Lists.{repeats_twice}
 use Rattle.elements.proofs.Steps.{places_step, places_end}
 use Rattle.elements.proofs.Laws.{element_inside, places_below}
 use Rattle.elements.proofs.named_twice.Goals as goal
-use Rattle.elements.proofs.named_twice.Goals.{in-At+else-seen-k, in_default}
+use Rattle.elements.proofs.named_twice.Goals.{in-Some+else-seen-k, in_default}
 
 pub loop-i-init : goal.loop-i-init
 unfolding named_twice
@@ -20,18 +20,18 @@ loop-i-init c = (search rules, sym (repeats_twice 16 (places c.args.f c.args.for
 pub bounds-seen-k : goal.bounds-seen-k
 bounds-seen-k c =
     let a = c.args in
-    omega (arith, element_inside a.f a.format.now c.loop-i.i c.in-At.k (sym c.element-found.ensures ∙ c.in-At.is))
+    omega (arith, element_inside a.f a.format.now c.loop-i.i c.in-Some.k (sym c.element-found.ensures ∙ c.in-Some.is))
 
 pub returns-then-seen-k : goal.returns-then-seen-k
 returns-then-seen-k c =
     let a = c.args in
-    let e = sym c.element-found.ensures ∙ c.in-At.is in
+    let e = sym c.element-found.ensures ∙ c.in-Some.is in
     sym (c.loop-i.invariant.1 ∙ rw (places_step a.f a.format.now c.loop-i.i, e, c.if-seen-k.true))
 
-pub bounds-seen-k-in-At : goal.bounds-seen-k-in-At
-bounds-seen-k-in-At c =
+pub bounds-seen-k-in-Some : goal.bounds-seen-k-in-Some
+bounds-seen-k-in-Some c =
     let a = c.args in
-    omega (arith, element_inside a.f a.format.now c.loop-i.i c.in-At.k (sym c.element-found.ensures ∙ c.in-At.is))
+    omega (arith, element_inside a.f a.format.now c.loop-i.i c.in-Some.k (sym c.element-found.ensures ∙ c.in-Some.is))
 
 pub loop-i-preserved : goal.loop-i-preserved
 loop-i-preserved c =
@@ -39,8 +39,8 @@ loop-i-preserved c =
     let e = sym c.element-found.ensures in
     let next = places_step a.f a.format.now c.loop-i.i in
     elim c.match-found.branch [
-      | in-At+else-seen-k w ↦
-          (rw w.seen-is (length-set c.loop-i.seen w.in-At.k true ∙ c.loop-i.invariant.0), c.loop-i.invariant.1 ∙ rw (next, e ∙ w.in-At.is, w.if-seen-k.false, w.seen-is))
+      | in-Some+else-seen-k w ↦
+          (rw w.seen-is (length-set c.loop-i.seen w.in-Some.k true ∙ c.loop-i.invariant.0), c.loop-i.invariant.1 ∙ rw (next, e ∙ w.in-Some.is, w.if-seen-k.false, w.seen-is))
       | in_default w ↦ (rw w.seen-is c.loop-i.invariant.0, c.loop-i.invariant.1 ∙ rw (next, e ∙ w.in_default.is, w.seen-is))
     ]
 

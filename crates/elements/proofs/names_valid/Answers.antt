@@ -14,10 +14,10 @@ returns-then-not-form c = rw (sym c.form.ensures ∙ c.if-not-form.true)
 pub loop-i-init : goal.loop-i-init
 loop-i-init c = (search rules, search rules, sym c.form.ensures ∙ c.if-not-form.false, search rules)
 
-pub returns-in-Nowhere : goal.returns-in-Nowhere
-returns-in-Nowhere c =
+pub returns-in-None : goal.returns-in-None
+returns-in-None c =
     let a = c.args in
-    let no = sym (element_name a.f a.format.now c.loop-i.i (omega arith)) ∙ sym c.element-found.ensures ∙ c.in-Nowhere.is in
+    let no = sym (element_name a.f a.format.now c.loop-i.i (omega arith)) ∙ sym c.element-found.ensures ∙ c.in-None.is in
     sym (rw (c.loop-i.invariant.2, c.loop-i.invariant.3, names_more a.format.now c.loop-i.i (omega arith), no))
 
 pub loop-i-preserved : goal.loop-i-preserved

@@ -17,12 +17,12 @@ use Rattle.fields.proofs.values_allowed.Goals.{After-allowed_span, After-span_at
 -- the record buffer has the values, so it has the one that the element names
 has_values : (c : At-loop-i) → length_needed c.args.f c.args.format.now ≤ length c.args.values.now
 has_values c =
-    let h = needed_fits c.args.f c.args.format.now (length c.args.values.now) _ (sym c.needed_within-needed.ensures ∙ c.in-Fits.is) in
+    let h = needed_fits c.args.f c.args.format.now (length c.args.values.now) _ (sym c.needed_within-needed.ensures ∙ c.in-Some.is) in
     omega (arith, h.0, h.1)
 
 has_values_2 : (c : After-span_at-s) → length_needed c.args.f c.args.format.now ≤ length c.args.values.now
 has_values_2 c =
-    let h = needed_fits c.args.f c.args.format.now (length c.args.values.now) _ (sym c.needed_within-needed.ensures ∙ c.in-Fits.is) in
+    let h = needed_fits c.args.f c.args.format.now (length c.args.values.now) _ (sym c.needed_within-needed.ensures ∙ c.in-Some.is) in
     omega (arith, h.0, h.1)
 
 value_here : (c : After-span_at-s) → c.loop-i.at + c.span_at-s.result.length ≤ length c.args.values.now

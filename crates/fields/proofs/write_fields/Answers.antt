@@ -21,12 +21,12 @@ use Rattle.fields.proofs.write_fields.Goals.{After-span_at-s, Else-content-recor
 -- what was tested: the record buffer and the record are long enough
 has_room : (c : Else-content-record_length) → (length_needed c.args.f c.args.format.now ≤ length c.args.values.now) × (record_length c.args.f ≤ length c.args.content.now)
 has_room c =
-    let h = needed_fits c.args.f c.args.format.now (length c.args.values.now) _ (sym c.needed_within-needed.ensures ∙ c.in-Fits.is) in
+    let h = needed_fits c.args.f c.args.format.now (length c.args.values.now) _ (sym c.needed_within-needed.ensures ∙ c.in-Some.is) in
     (omega (arith, h.0, h.1), omega (arith, c.record_length.ensures, c.if-content-record_length.false))
 
 has_room_2 : (c : After-span_at-s) → (length_needed c.args.f c.args.format.now ≤ length c.args.values.now) × (record_length c.args.f ≤ length c.args.content.now)
 has_room_2 c =
-    let h = needed_fits c.args.f c.args.format.now (length c.args.values.now) _ (sym c.needed_within-needed.ensures ∙ c.in-Fits.is) in
+    let h = needed_fits c.args.f c.args.format.now (length c.args.values.now) _ (sym c.needed_within-needed.ensures ∙ c.in-Some.is) in
     (omega (arith, h.0, h.1), omega (arith, c.record_length.ensures, c.if-content-record_length.false))
 
 -- the span of the element lies in the record, and its value in the record buffer

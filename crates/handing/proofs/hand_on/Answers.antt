@@ -12,10 +12,10 @@ returns-in_default c kept assigned images =
 pub returns-then-standing-queue : goal.returns-then-standing-queue
 returns-then-standing-queue c kept assigned images =
     let a = c.args in
-    first_gets a.d a.clock a.standing kept assigned a.store.now a.queue.now images a.file a.isn _ _ (sym c.first_in_line-first.ensures ∙ c.in-Held.is) c.if-standing-queue.true
+    first_gets a.d a.clock a.standing kept assigned a.store.now a.queue.now images a.file a.isn _ _ (sym c.first_in_line-first.ensures ∙ c.in-Some.is) c.if-standing-queue.true
     ∙ c.take_hold.ensures kept assigned images
 
 pub returns : goal.returns
 returns c kept assigned images =
     let a = c.args in
-    no_room a.d a.clock a.standing kept assigned a.store.now a.queue.now images a.file a.isn _ _ (sym c.first_in_line-first.ensures ∙ c.in-Held.is) c.if-standing-queue.false
+    no_room a.d a.clock a.standing kept assigned a.store.now a.queue.now images a.file a.isn _ _ (sym c.first_in_line-first.ensures ∙ c.in-Some.is) c.if-standing-queue.false

@@ -1,11 +1,11 @@
 -- `record_there` meets its contract: the part that is read is the file's, as far as the store has it.
 -- Assumes nothing.
+use Rattle.std.specs.Prelude.{Some}
 use Prim.Native.Nat.{◌-◌, min}
 use mathlib.Core.Path.{◌≡◌, sym, ap, ◌∙◌}
 use lib.ListN.{length}
 use Rattle.definition.specs.Shape.{file_or_none_at}
 use Rattle.definition.proofs.Known.{definition_known}
-use Rattle.records.specs.declared.Found.TheVariants.{At}
 use Rattle.layout.specs.Layout.{place}
 use Rattle.layout.specs.Laws.{place_found}
 use Rattle.handing.specs.Laws.{there_nowhere, there_in}
@@ -19,9 +19,9 @@ returns-in_default c =
 pub returns : goal.returns
 returns c =
     let a = c.args in
-    let found : place a.d a.file ≡ At c.in-At.i = sym c.place-found.ensures ∙ c.in-At.is in
-    let inside = (place_found a.d (definition_known _ _ c.well_formed.0) a.file c.in-At.i found).0 in
+    let found : place a.d a.file ≡ Some c.in-Some.i = sym c.place-found.ensures ∙ c.in-Some.is in
+    let inside = (place_found a.d (definition_known _ _ c.well_formed.0) a.file c.in-Some.i found).0 in
     c.has_record.ensures
-    ∙ there_in a.d a.file a.isn a.store.now c.in-At.i c.file_at-f.result c.least-start.result c.least.result found
-    (c.file_at-f.ensures ∙ file_or_none_at a.d c.in-At.i inside) (c.least-start.ensures ∙ ap (λ at. min at (length a.store.now)) c.file_offset.ensures)
+    ∙ there_in a.d a.file a.isn a.store.now c.in-Some.i c.file_at-f.result c.least-start.result c.least.result found
+    (c.file_at-f.ensures ∙ file_or_none_at a.d c.in-Some.i inside) (c.least-start.ensures ∙ ap (λ at. min at (length a.store.now)) c.file_offset.ensures)
     (c.least.ensures ∙ ap (λ n. min n (length a.store.now - c.least-start.result)) c.file_size.ensures)

@@ -1,5 +1,5 @@
 -- `other_holds` meets its contract. Assumes nothing.
 use Rattle.hold_rows.proofs.other_holds.Goals as goal
 
-pub returns-in-Held : goal.returns-in-Held
-returns-in-Held c = rw c.in-Held.is
+pub returns-in-Some : goal.returns-in-Some
+returns-in-Some c = rw c.in-Some.is

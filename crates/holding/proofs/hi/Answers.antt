@@ -1,9 +1,9 @@
 -- `hi` meets its contract: its rows in the table's order, and then the hold.
 -- Assumes nothing.
+use Rattle.std.specs.Prelude.{Option, Some, None}
 use Prim.Native.Nat.{ℕ}
 use mathlib.Core.Path.{◌≡◌, sym, ◌∙◌}
 use mathlib.Core.List.{List, [], ◌∷◌}
-use mathlib.Core.Option.{Option, none, some}
 use Rattle.nucleus.specs.Rows.{Row, first_cause}
 use Rattle.nucleus.specs.declared.Call.{Call}
 use Rattle.nucleus.specs.declared.Response.{Response}
@@ -24,11 +24,11 @@ module _ (call : Call) (x : Share) (queue : List ℕ) (room : ℕ) where
   abbrev cause : Option Response
   cause = hi_cause call x queue room
 
-  by_others : (c : Response) → first_cause of_others ≡ some c → cause ≡ some c
+  by_others : (c : Response) → first_cause of_others ≡ Some c → cause ≡ Some c
   unfolding hi_cause
   by_others c e = causes_refused of_others of_room c e
 
-  past_others : first_cause of_others ≡ none → cause ≡ first_cause of_room
+  past_others : first_cause of_others ≡ None → cause ≡ first_cause of_room
   unfolding hi_cause
   past_others e = causes_passed of_others of_room e
 
@@ -37,16 +37,16 @@ past c =
     let a = c.args in
     past_others a.call a.share a.queue.now a.most (verdict_passed _ (sym c.others-others.ensures ∙ c.in_default.is))
 
-pub returns-in-Refused : goal.returns-in-Refused
-returns-in-Refused c =
+pub returns-in-Err : goal.returns-in-Err
+returns-in-Err c =
     let a = c.args in
-    let why = by_others a.call a.share a.queue.now a.most _ (verdict_refused _ _ (sym c.others-others.ensures ∙ c.in-Refused.is)) in
+    let why = by_others a.call a.share a.queue.now a.most _ (verdict_refused _ _ (sym c.others-others.ensures ∙ c.in-Err.is)) in
     record { value = rw why c.refused.ensures; queue_after = rw why }
 
-pub returns-in-Refused-verdict : goal.returns-in-Refused-verdict
-returns-in-Refused-verdict c =
-    let why = past (goal.at.returns-in-Refused-verdict c).In_default ∙ verdict_refused _ _ (sym c.room-verdict.ensures ∙ c.in-Refused-verdict.is) in
-    record { value = rw why c.refused-in-Refused-verdict.ensures; queue_after = rw why }
+pub returns-in-Err-verdict : goal.returns-in-Err-verdict
+returns-in-Err-verdict c =
+    let why = past (goal.at.returns-in-Err-verdict c).In_default ∙ verdict_refused _ _ (sym c.room-verdict.ensures ∙ c.in-Err-verdict.is) in
+    record { value = rw why c.refused-in-Err-verdict.ensures; queue_after = rw why }
 
 pub returns : goal.returns
 returns c =

@@ -1,6 +1,7 @@
 -- `first_item` meets its contract: each arm's kind computes to its case of `item_of`.
 -- Assumes nothing.
 use Rattle.lists.specs.Rest.{part_to_end}
+use Rattle.std.specs.Prelude.{Option, Some, None}
 use mathlib.Core.Path.{◌≡◌, ap, ◌∙◌}
 use mathlib.Core.List.{List}
 use Prim.Native.Nat.{ℕ}
@@ -10,12 +11,12 @@ use borrow.Author.Tests.{eq-eqb, ne_eqb}
 use Rattle.lists.specs.Tests.{cond}
 use Rattle.items.specs.Items.{file_item, field_item, item_of}
 use Rattle.items.specs.declared.Item.{Item}
-use Rattle.items.specs.declared.Item.TheVariants.{End, Broken}
+use Rattle.items.specs.declared.Item.TheVariants.{End}
 use Rattle.items.proofs.first_item.Goals as goal
 
 -- the item that begins with this kind
-abbrev of_kind : ℕ → List ℕ → Item
-of_kind k bytes = cond (eqb k 0) End (cond (eqb k 1) (file_item (drop 1 bytes)) (cond (eqb k 2) (field_item (drop 1 bytes)) Broken))
+abbrev of_kind : ℕ → List ℕ → Option Item
+of_kind k bytes = cond (eqb k 0) (Some End) (cond (eqb k 1) (file_item (drop 1 bytes)) (cond (eqb k 2) (field_item (drop 1 bytes)) None))
 
 by_kind : (bytes : List ℕ) → (length bytes ≡ 0 → ⊥) → (k : ℕ) → get_or bytes 0 0 ≡ k → of_kind k bytes ≡ item_of bytes
 unfolding item_of

@@ -20,4 +20,4 @@ pub returns : goal.returns
 unfolding imaged_queue imaged_images
 returns c =
     let held = c.hold-held.ensures in
-    record { value = held.value; queue_after = rw (← (found_now (goal.at.returns c).After-holder-found), c.in-Held.is, ← held.queue_after) c.first_change.ensures.queue_after; images_after = rw (← (found_now (goal.at.returns c).After-holder-found), c.in-Held.is, ← held.queue_after) c.first_change.ensures.images_after }
+    record { value = held.value; queue_after = rw (← (found_now (goal.at.returns c).After-holder-found), c.in-Some.is, ← held.queue_after) c.first_change.ensures.queue_after; images_after = rw (← (found_now (goal.at.returns c).After-holder-found), c.in-Some.is, ← held.queue_after) c.first_change.ensures.images_after }

@@ -26,9 +26,9 @@ returns-then-entry-call c =
     let one = ne_eqb _ _ c.if-call-eq0.false in
     let his = ne_eqb _ _ c.if-entry-call.true in
     record {
-      value = rw (one, ← c.holder-found.ensures, c.in-Held.is, his) c.refused-then-entry-call.ensures;
-      queue_after = rw (one, ← c.holder-found.ensures, c.in-Held.is, his);
-      images_after = rw (one, ← c.holder-found.ensures, c.in-Held.is, his);
+      value = rw (one, ← c.holder-found.ensures, c.in-Some.is, his) c.refused-then-entry-call.ensures;
+      queue_after = rw (one, ← c.holder-found.ensures, c.in-Some.is, his);
+      images_after = rw (one, ← c.holder-found.ensures, c.in-Some.is, his);
     }
 
 pub returns-then-entry : goal.returns-then-entry
@@ -37,9 +37,9 @@ returns-then-entry c =
     let one = ne_eqb _ _ c.if-call-eq0.false in
     let his = eq-eqb _ _ c.if-entry-call.false in
     record {
-      value = rw (one, ← c.holder-found.ensures, c.in-Held.is, his, c.if-entry.true) c.refused-then-entry.ensures;
-      queue_after = rw (one, ← c.holder-found.ensures, c.in-Held.is, his, c.if-entry.true);
-      images_after = rw (one, ← c.holder-found.ensures, c.in-Held.is, his, c.if-entry.true);
+      value = rw (one, ← c.holder-found.ensures, c.in-Some.is, his, c.if-entry.true) c.refused-then-entry.ensures;
+      queue_after = rw (one, ← c.holder-found.ensures, c.in-Some.is, his, c.if-entry.true);
+      images_after = rw (one, ← c.holder-found.ensures, c.in-Some.is, his, c.if-entry.true);
     }
 
 pub returns : goal.returns
@@ -48,7 +48,7 @@ returns c =
     let one = ne_eqb _ _ c.if-call-eq0.false in
     let his = eq-eqb _ _ c.if-entry-call.false in
     record {
-      value = rw (one, ← c.holder-found.ensures, c.in-Held.is, his, c.if-entry.false) c.dropped-2.ensures.value;
-      queue_after = rw (one, ← c.holder-found.ensures, c.in-Held.is, his, c.if-entry.false) c.dropped-2.ensures.queue_after;
-      images_after = rw (one, ← c.holder-found.ensures, c.in-Held.is, his, c.if-entry.false) c.dropped-2.ensures.images_after;
+      value = rw (one, ← c.holder-found.ensures, c.in-Some.is, his, c.if-entry.false) c.dropped-2.ensures.value;
+      queue_after = rw (one, ← c.holder-found.ensures, c.in-Some.is, his, c.if-entry.false) c.dropped-2.ensures.queue_after;
+      images_after = rw (one, ← c.holder-found.ensures, c.in-Some.is, his, c.if-entry.false) c.dropped-2.ensures.images_after;
     }

@@ -23,4 +23,4 @@ returns-in_default c =
 pub returns : goal.returns
 returns c =
     let a = c.args in
-    sym (ap is_held c.in-Held.is) ∙ ap is_held c.holder.ensures ∙ held_any a.e.file a.e.isn (entries a.queue.now a.count)
+    sym (ap is_held c.in-Some.is) ∙ ap is_held c.holder.ensures ∙ held_any a.e.file a.e.isn (entries a.queue.now a.count)

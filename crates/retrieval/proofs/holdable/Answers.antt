@@ -26,10 +26,10 @@ past c =
     let a = c.args in
     causes_passed (of_others a.call a.share a.queue.now a.isn) (later a.call a.share a.f a.part.now a.queue.now a.most a.isn) (verdict_passed _ (sym c.others-others.ensures ∙ c.in_default.is))
 
-pub returns-in-Refused : goal.returns-in-Refused
-returns-in-Refused c =
+pub returns-in-Err : goal.returns-in-Err
+returns-in-Err c =
     let a = c.args in
-    rw (causes_refused (of_others a.call a.share a.queue.now a.isn) (later a.call a.share a.f a.part.now a.queue.now a.most a.isn) _ (verdict_refused _ _ (sym c.others-others.ensures ∙ c.in-Refused.is)))
+    rw (causes_refused (of_others a.call a.share a.queue.now a.isn) (later a.call a.share a.f a.part.now a.queue.now a.most a.isn) _ (verdict_refused _ _ (sym c.others-others.ensures ∙ c.in-Err.is)))
 
 pub returns-then-not-has_record : goal.returns-then-not-has_record
 returns-then-not-has_record c = rw (past (goal.at.returns-then-not-has_record c).In_default, sym c.has_record.ensures ∙ c.if-not-has_record.true)

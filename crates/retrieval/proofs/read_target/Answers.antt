@@ -16,11 +16,11 @@ passed c =
     let a = c.args in
     causes_passed (rows_read a.f a.format.now a.buffer.now) (row_found a.call a.f a.part.now ∷ []) (verdict_passed _ (sym c.readable-readable.ensures ∙ c.in_default.is))
 
-pub returns-in-Refused : goal.returns-in-Refused
+pub returns-in-Err : goal.returns-in-Err
 unfolding read_target
-returns-in-Refused c =
+returns-in-Err c =
     let a = c.args in
-    let no = verdict_refused (first_cause (rows_read a.f a.format.now a.buffer.now)) _ (sym c.readable-readable.ensures ∙ c.in-Refused.is) in
+    let no = verdict_refused (first_cause (rows_read a.f a.format.now a.buffer.now)) _ (sym c.readable-readable.ensures ∙ c.in-Err.is) in
     rw (causes_refused (rows_read a.f a.format.now a.buffer.now) (row_found a.call a.f a.part.now ∷ []) _ no)
 
 pub returns-in_default-found : goal.returns-in_default-found
@@ -29,4 +29,4 @@ returns-in_default-found c = rw (passed (goal.at.returns-in_default-found c).In_
 
 pub returns : goal.returns
 unfolding read_target
-returns c = rw (passed (goal.at.returns c).In_default, sym c.sought-found.ensures ∙ c.in-At.is)
+returns c = rw (passed (goal.at.returns c).In_default, sym c.sought-found.ensures ∙ c.in-Some.is)

@@ -1,4 +1,5 @@
 -- `set_up_for` meets its contract: at each `return`, for any queue that has as many entries. Assumes nothing.
+use Rattle.std.specs.Prelude.{Option}
 use mathlib.Core.Path.{◌≡◌, sym, ap, ◌∙◌}
 use mathlib.Core.Bool.{Bool, true, false}
 use mathlib.Core.List.{List}
@@ -8,7 +9,6 @@ use borrow.Author.Tests.{eq-eqb, ne_eqb}
 use Rattle.definition.specs.declared.Definition.{Definition}
 use Rattle.reading.specs.Grammar.{read_table}
 use Rattle.reading.specs.declared.Reading.{Reading}
-use Rattle.reading.specs.declared.End.{End}
 use Rattle.nucleus.specs.WellMade.{too_short}
 use Rattle.lists.specs.Numbers.{numbers}
 use Rattle.definition.specs.Table.{file_count}
@@ -19,7 +19,7 @@ use Rattle.usability.specs.Sizes.{too_short_for, too_short_is, store_long}
 use Rattle.setup.proofs.set_up_for.Goals as goal
 
 -- where the table ends, as it was read
-ends : (t : List ℕ) (x : Reading) → x ≡ read_table t → (e : End) → x.end ≡ e → (read_table t).end ≡ e
+ends : (t : List ℕ) (x : Reading) → x ≡ read_table t → (e : Option ℕ) → x.end ≡ e → (read_table t).end ≡ e
 ends t x same e h = ap (λ (y : Reading). y.end) (sym same) ∙ h
 
 holds_of : (t : List ℕ) (x : Reading) → x ≡ read_table t → (f : Definition → Bool) (b : Bool) → f x.definition ≡ b → f (read_table t).definition ≡ b
@@ -41,7 +41,7 @@ returns-in_default c queue e =
 pub returns-then-at-table : goal.returns-then-at-table
 unfolding set_up
 returns-then-at-table c queue e =
-    let at = ends _ _ c.read-read.ensures _ c.in-At.is in
+    let at = ends _ _ c.read-read.ensures _ c.in-Some.is in
     let more = ne_eqb _ _ c.if-at-table.true in
     rw (at, more, c.refused-then-at-table.ensures)
 
@@ -49,7 +49,7 @@ pub returns-then-too_short_for : goal.returns-then-too_short_for
 unfolding set_up
 returns-then-too_short_for c queue e =
     let a = c.args in
-    let at = ends _ _ c.read-read.ensures _ c.in-At.is in
+    let at = ends _ _ c.read-read.ensures _ c.in-Some.is in
     let whole = eq-eqb _ _ c.if-at-table.false in
     let short = judged _ _ _ queue _ _ _ _ e c.too_short_for.ensures c.if-too_short_for.true in
     rw (at, whole, holds_of _ _ c.read-read.ensures (λ d. too_short d a.capacity a.store.now queue a.images.now) true short, c.refused-then-too_short_for.ensures)
@@ -65,7 +65,7 @@ unfolding set_up
 returns c queue e =
     let a = c.args in
     let same = c.read-read.ensures in
-    let at = ends _ _ same _ c.in-At.is in
+    let at = ends _ _ same _ c.in-Some.is in
     let whole = eq-eqb _ _ c.if-at-table.false in
     let long = judged _ _ _ queue _ _ _ _ e c.too_short_for.ensures c.if-too_short_for.false in
     rw (at, whole, holds_of _ _ same (λ d. too_short d a.capacity a.store.now queue a.images.now) false long, c.fresh_state-state.ensures, c.freshen.ensures)

@@ -1,5 +1,6 @@
 -- `is_named` meets its contract. The loop's invariant: the field is named where what is left of the buffer names it.
 -- Assumes nothing.
+use Rattle.std.specs.Prelude.{Option, Some, None}
 use Prim.Native.Nat.{ℕ, ◌+◌}
 use mathlib.Core.Path.{◌≡◌, refl, sym, ◌∙◌}
 use mathlib.Core.Bool.{◌||◌}
@@ -9,16 +10,14 @@ use lib.ListN.{drop}
 use Rattle.lists.specs.Folds.{any}
 use Rattle.elements.specs.Elements.{before, places}
 use Rattle.elements.proofs.Steps.{places_step, places_end}
-use Rattle.records.specs.declared.Found.{Found}
-use Rattle.records.specs.declared.Found.TheVariants.{At, Nowhere}
 use Rattle.uniqueness.specs.Uniqueness.{is_place}
 use Rattle.uniqueness.proofs.is_named.Goals as goal
 use Rattle.uniqueness.proofs.is_named.Goals.{After-is_place}
 
 -- one place before others
-among : (k : ℕ) (x : Found) (ks : List ℕ) → any (eqb k) (before x ks) ≡ (is_place k x || any (eqb k) ks)
-among k (At j) ks = refl
-among k Nowhere ks = refl
+among : (k : ℕ) (x : Option ℕ) (ks : List ℕ) → any (eqb k) (before x ks) ≡ (is_place k x || any (eqb k) ks)
+among k (Some j) ks = refl
+among k None ks = refl
 
 -- what is named from here on: by the element here, or behind it
 turn : (c : After-is_place) → let a = c.args in

@@ -1,9 +1,9 @@
 -- `amendable` meets its contract: each `return` says how the rows before it came out, in the table's order.
 -- Assumes nothing.
+use Rattle.std.specs.Prelude.{Option, Some, None}
 use Prim.Native.Nat.{ℕ, ◌≤◌}
 use mathlib.Core.Path.{◌≡◌, sym, ◌∙◌}
 use mathlib.Core.List.{List, [], ◌∷◌, ◌++◌}
-use mathlib.Core.Option.{Option, none, some}
 use borrow.Author.Tests.{ltb-false}
 use Rattle.definition.specs.declared.File.{File}
 use Rattle.records.specs.Records.{record_length}
@@ -35,24 +35,24 @@ module _ (f : File) (part : List ℕ) (call : Call) (x : Share) (queue : List �
   abbrev cause : Option Response
   cause = first_cause (rows_amended f part call x queue room images width format buffer)
 
-  cause_made : (c : Response) → first_cause rows_made ≡ some c → cause ≡ some c
+  cause_made : (c : Response) → first_cause rows_made ≡ Some c → cause ≡ Some c
   cause_made = causes_refused rows_made (rows_next ++ last ∷ [])
 
-  module _ (made : first_cause rows_made ≡ none) where
-    cause_changed : (c : Response) → first_cause rows_next ≡ some c → cause ≡ some c
+  module _ (made : first_cause rows_made ≡ None) where
+    cause_changed : (c : Response) → first_cause rows_next ≡ Some c → cause ≡ Some c
     cause_changed c e = causes_passed rows_made (rows_next ++ last ∷ []) made ∙ causes_refused rows_next (last ∷ []) c e
 
-    cause_taken : first_cause rows_next ≡ none → cause ≡ first_cause (last ∷ [])
+    cause_taken : first_cause rows_next ≡ None → cause ≡ first_cause (last ∷ [])
     cause_taken e = causes_passed rows_made (rows_next ++ last ∷ []) made ∙ causes_passed rows_next (last ∷ []) e
 
     made_short : record_length f ≤ max_scratch
     made_short = ltb-false max_scratch (record_length f) (row_passed (row_scratch f) (rows_brought f format buffer) made)
 
-made : (c : In_default) → let a = c.args in first_cause (row_scratch a.f ∷ rows_brought a.f a.format.now a.buffer.now) ≡ none
+made : (c : In_default) → let a = c.args in first_cause (row_scratch a.f ∷ rows_brought a.f a.format.now a.buffer.now) ≡ None
 made c = verdict_passed _ (sym c.storable-storable.ensures ∙ c.in_default.is)
 
 -- past the rows of a change
-changed : (c : In_default-allowed) → let a = c.args in first_cause (rows_changed a.f a.part.now a.call a.share a.queue.now a.most) ≡ none
+changed : (c : In_default-allowed) → let a = c.args in first_cause (rows_changed a.f a.part.now a.call a.share a.queue.now a.most) ≡ None
 changed c = verdict_passed _ (sym c.changeable-allowed.ensures ∙ c.in_default-allowed.is)
 
 left : (c : In_default-allowed) → let a = c.args in
@@ -62,15 +62,15 @@ left c =
     let a = c.args in
     cause_taken a.f a.part.now a.call a.share a.queue.now a.most a.images.now a.width a.format.now a.buffer.now (verdict_passed _ (sym c.storable-storable.ensures ∙ c.in_default.is)) (changed c)
 
-pub returns-in-Refused : goal.returns-in-Refused
-returns-in-Refused c =
+pub returns-in-Err : goal.returns-in-Err
+returns-in-Err c =
     let a = c.args in
-    rw (cause_made a.f a.part.now a.call a.share a.queue.now a.most a.images.now a.width a.format.now a.buffer.now _ (verdict_refused _ _ (sym c.storable-storable.ensures ∙ c.in-Refused.is)))
+    rw (cause_made a.f a.part.now a.call a.share a.queue.now a.most a.images.now a.width a.format.now a.buffer.now _ (verdict_refused _ _ (sym c.storable-storable.ensures ∙ c.in-Err.is)))
 
-pub returns-in-Refused-allowed : goal.returns-in-Refused-allowed
-returns-in-Refused-allowed c =
+pub returns-in-Err-allowed : goal.returns-in-Err-allowed
+returns-in-Err-allowed c =
     let a = c.args in
-    rw (cause_changed a.f a.part.now a.call a.share a.queue.now a.most a.images.now a.width a.format.now a.buffer.now (made (goal.at.returns-in-Refused-allowed c).In_default) _ (verdict_refused _ _ (sym c.changeable-allowed.ensures ∙ c.in-Refused-allowed.is)))
+    rw (cause_changed a.f a.part.now a.call a.share a.queue.now a.most a.images.now a.width a.format.now a.buffer.now (made (goal.at.returns-in-Err-allowed c).In_default) _ (verdict_refused _ _ (sym c.changeable-allowed.ensures ∙ c.in-Err-allowed.is)))
 
 pub value_taken-requires : goal.value_taken-requires
 value_taken-requires c =

@@ -1,8 +1,8 @@
 -- `a1` meets its contract: past its rows a record is there, which is kept before its fields are replaced.
 -- Assumes nothing.
+use Rattle.std.specs.Prelude.{None}
 use mathlib.Core.Path.{◌≡◌, refl, sym, ◌∙◌}
 use mathlib.Core.Bool.{true}
-use mathlib.Core.Option.{none}
 use Rattle.amendment.specs.Laws.{amended_record}
 use Rattle.store.specs.Store.{has_record}
 use Rattle.nucleus.specs.Rows.{first_cause}
@@ -18,7 +18,7 @@ cause_is : (c : Start) → let a = c.args in
     ≡ first_cause (rows_amended a.f a.part.now a.call a.share a.queue.now a.most a.images.now a.width a.format.now a.buffer.now)
 cause_is c = let a = c.args in a1_cause_is a.f a.part.now a.call a.share a.queue.now a.most a.images.now a.width a.format.now a.buffer.now
 
-passed : (c : In_default) → let a = c.args in first_cause (rows_amended a.f a.part.now a.call a.share a.queue.now a.most a.images.now a.width a.format.now a.buffer.now) ≡ none
+passed : (c : In_default) → let a = c.args in first_cause (rows_amended a.f a.part.now a.call a.share a.queue.now a.most a.images.now a.width a.format.now a.buffer.now) ≡ None
 passed c = verdict_passed _ (sym c.amendable-verdict.ensures ∙ c.in_default.is)
 
 there : (c : In_default) → let a = c.args in has_record a.f a.part.now a.call.isn ≡ true
@@ -26,9 +26,9 @@ there c =
     let a = c.args in
     amend_there a.f a.part.now a.call a.share a.queue.now a.most a.images.now a.width a.format.now a.buffer.now (passed c)
 
-pub returns-in-Refused : goal.returns-in-Refused
-returns-in-Refused c =
-    rw (cause_is (goal.at.returns-in-Refused c).Start ∙ verdict_refused _ _ (sym c.amendable-verdict.ensures ∙ c.in-Refused.is))
+pub returns-in-Err : goal.returns-in-Err
+returns-in-Err c =
+    rw (cause_is (goal.at.returns-in-Err c).Start ∙ verdict_refused _ _ (sym c.amendable-verdict.ensures ∙ c.in-Err.is))
     (record { value = c.refused.ensures; part_after = refl; queue_after = refl; images_after = refl })
 
 pub returns : goal.returns

@@ -1,5 +1,6 @@
 -- `usable` meets its contract: each `return` names the test that led there.
 -- Assumes nothing.
+use Rattle.std.specs.Prelude.{Err}
 use mathlib.Core.Path.{◌≡◌, sym, ◌∙◌}
 use mathlib.Core.Bool.{true, false}
 use borrow.Author.Tests.{lt-leb, le-leb}
@@ -10,7 +11,6 @@ use Rattle.nucleus.specs.WellMade.{well_made, entry_made}
 use Rattle.nucleus.specs.Rows.{first_cause, rows_usable}
 use Rattle.nucleus.specs.declared.Response.TheVariants.{StateInvalid}
 use Rattle.shares.specs.Shares.{verdict}
-use Rattle.shares.specs.declared.Verdict.TheVariants.{Refused}
 use Rattle.entry_tables.specs.Laws.{entries_judged}
 use Rattle.usability.proofs.Laws.{table_refused, sizes_refused, state_refused, state_passed, too_many, two_alike, entries_badly, users_badly, assigned_badly, data_badly, line_badly, all_made}
 use Rattle.usability.proofs.Known.{state_known}
@@ -25,7 +25,7 @@ module _ (c : Else-too_short) where
   table_valid : valid c.args.state.definition ≡ true
   table_valid = sym c.valid.ensures ∙ c.if-not-valid.false
 
-  badly : well_made c.args.capacity lent ≡ false → Refused StateInvalid ≡ verdict (first_cause (rows_usable c.args.capacity lent))
+  badly : well_made c.args.capacity lent ≡ false → Err StateInvalid ≡ verdict (first_cause (rows_usable c.args.capacity lent))
   badly w = state_refused c.args.capacity lent table_valid (sym c.too_short.ensures ∙ c.if-too_short.false) w
 
 -- the entries, judged by the tables
