@@ -7,17 +7,16 @@ ghost use Rattle.changes.specs.Changes.{change, keep_image, first_change_queue, 
 use entries::Entry;
 
 // The entry at a place is changed from now on; `existed` says whether a record was there before.
+#[tactic(auto, unfolding(crate::specs::Changes::change))]
 fn change(queue: &mut [u64], at: usize, existed: bool)
     requires { at < length queue.old }
     ensures { queue.new ≡ change queue.old at existed }
 {
     let e = entries::unpack(queue[at]);
     queue[at] = entries::pack(Entry {
-        user: e.user,
-        file: e.file,
-        isn: e.isn,
         changed: true,
         existed,
+        ..e
     });
 }
 
@@ -25,13 +24,11 @@ fn change(queue: &mut [u64], at: usize, existed: bool)
 fn fits_at(at: usize, width: usize, length: usize) -> bool
     ensures { result ≡ leb ((at + 1) * width) length }
 {
-    if width == 0 {
-        return true;
-    }
-    at < length / width
+    width == 0 || at < length / width
 }
 
 // Keeps a record's bytes as the image of the entry at a place; changes nothing where they do not fit.
+#[tactic(auto, using(lists::specs::Parts::patched_sets), unfolding(crate::specs::Changes::keep_image))]
 fn keep_image(images: &mut [u8], width: usize, at: usize, content: &[u8])
     ensures { images.new ≡ keep_image images.old width at content.now }
 {
@@ -43,11 +40,12 @@ fn keep_image(images: &mut [u8], width: usize, at: usize, content: &[u8])
         return;
     }
     let start = at * width;
-    slices::copy(content, &mut images[start..start + n]);
+    images[start..start + n].copy_from_slice(content);
 }
 
 // What the first change of the entry at a place does to queue and images: the entry is changed from now on, and where there is a record it is
 // kept as the entry's image. A later change keeps the old image.
+#[tactic(auto, unfolding(crate::specs::Changes::first_change_queue, crate::specs::Changes::first_change_images, crate::specs::Changes::settled))]
 pub fn first_change(
     queue: &mut [u64],
     images: &mut [u8],

@@ -12,7 +12,7 @@ use definition::File;
 
 // Which version of an ISN's record ended transactions left: the store's, the image of the entry at a place of the hold queue, or none, where an
 // open transaction added it.
-#[derive(Clone, Copy)]
+#[derive(Clone, Copy, PartialEq, Eq)]
 pub enum Version {
     Stored,
     Imaged(usize),
@@ -21,7 +21,7 @@ pub enum Version {
 
 // Where a record lies: in the image buffer or in the store, from where on, and how many bytes. No bytes where there is no record.
 #[repr(C)]
-#[derive(Clone, Copy)]
+#[derive(Clone, Copy, PartialEq, Eq)]
 pub struct Place {
     pub start: usize,
     pub length: usize,
@@ -29,33 +29,26 @@ pub struct Place {
 }
 
 // A changed entry shows what was there before it; otherwise the store shows.
+#[tactic(auto, unfolding(crate::specs::Committed::committed_version))]
 pub fn committed_version(queue: &[u64], count: usize, file: u8, isn: u16) -> Version
     ensures { result ≡ committed_version (entries queue.now count) file isn }
 {
-    let found = queue::holder(queue, count, file, isn);
-    let Some((at, e)) = found else {
-        return Version::Stored;
-    };
-    if !e.changed {
-        return Version::Stored;
+    match queue::holder(queue, count, file, isn) {
+        Some((at, e)) if e.changed && e.existed => Version::Imaged(at),
+        Some((_, e)) if e.changed => Version::Absent,
+        _ => Version::Stored,
     }
-    if !e.existed {
-        return Version::Absent;
-    }
-    Version::Imaged(at)
 }
 
 // Whether the i-th block of the image buffer has room for a record of the file at its front.
 pub fn image_inside(f: File, size: usize, width: usize, i: usize) -> bool
     ensures { result ≡ image_inside f size width i }
 {
-    if !slices::blocks_fit(i, width, size) {
-        return false;
-    }
-    records::record_length(f) <= size - i * width
+    slices::blocks_fit(i, width, size) && records::record_length(f) <= size - i * width
 }
 
 // Whether a version has a record.
+#[tactic(auto, unfolding(crate::specs::Committed::version_there))]
 pub fn version_there(
     f: File,
     part: &[u8],
@@ -74,6 +67,7 @@ pub fn version_there(
 }
 
 // The record at the front of the i-th block of the image buffer.
+#[tactic(auto, using(lists::specs::Parts::part_take))]
 fn image_part(f: File, images: &[u8], width: usize, i: usize) -> &[u8]
     ensures { result.now ≡ cond (image_inside f (length images.now) width i) (piece (i * width) (record_length f) images.now) [] }
 {
@@ -86,6 +80,7 @@ fn image_part(f: File, images: &[u8], width: usize, i: usize) -> &[u8]
 }
 
 // The record of a version, as a part of the image buffer or of the file's part of the store; no bytes where there is none.
+#[tactic(auto, unfolding(crate::specs::Committed::version_bytes))]
 pub fn version_part<'a>(
     f: File,
     part: &'a [u8],
@@ -104,20 +99,23 @@ pub fn version_part<'a>(
 }
 
 // The bytes from a place on, as many as there are of the number asked for.
+#[tactic(auto, using(lists::specs::Parts::part_least))]
 fn piece_of(s: &[u8], start: usize, length: usize) -> &[u8]
     ensures { result.now ≡ piece start length s.now }
 {
-    let from = slices::least(start, s.len());
-    let to = from + slices::least(length, s.len() - from);
+    let from = start.min(s.len());
+    let to = from + length.min(s.len() - from);
     &s[from..to]
 }
 
 // The bytes at a place, as a part of the store or of the image buffer.
+#[tactic(auto, unfolding(crate::specs::Committed::bytes_at))]
 pub fn part_at<'a>(place: Place, store: &'a [u8], images: &'a [u8]) -> &'a [u8]
     ensures { result.now ≡ bytes_at place store.now images.now }
 {
     if place.imaged {
-        return piece_of(images, place.start, place.length);
+        piece_of(images, place.start, place.length)
+    } else {
+        piece_of(store, place.start, place.length)
     }
-    piece_of(store, place.start, place.length)
 }

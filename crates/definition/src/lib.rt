@@ -1,5 +1,6 @@
 // A definition (document 01, 'Files and their definition'): which files there are, and the fields of each.
 // A definition is a value of fixed size. Of each array only the first `count` places are in use; what the others hold means nothing.
+// `==` of two files or two definitions compares every place, in use or not.
 #![tactic(auto)]
 
 ghost use Rattle.std.specs.Prelude.{◌≡◌};
@@ -27,7 +28,7 @@ pub const MAX_UNPACKED: u8 = 29;
 pub const MAX_PACKED: u8 = 15;
 
 // Document 01's `A`, `B`, `U` and `P`.
-#[derive(Clone, Copy)]
+#[derive(Clone, Copy, PartialEq, Eq)]
 pub enum Format {
     Alphanumeric,
     Binary,
@@ -36,7 +37,7 @@ pub enum Format {
 }
 
 // The option of a field: document 01's blank, `D` and `U`.
-#[derive(Clone, Copy)]
+#[derive(Clone, Copy, PartialEq, Eq)]
 pub enum FieldOption {
     Plain,
     Descriptor,
@@ -44,13 +45,13 @@ pub enum FieldOption {
 }
 
 // The two characters of a field's name.
-#[derive(Clone, Copy)]
+#[derive(Clone, Copy, PartialEq, Eq)]
 pub struct Name {
     pub first: u8,
     pub second: u8,
 }
 
-#[derive(Clone, Copy)]
+#[derive(Clone, Copy, PartialEq, Eq)]
 pub struct Field {
     pub name: Name,
     pub length: u8,
@@ -58,7 +59,7 @@ pub struct Field {
     pub option: FieldOption,
 }
 
-#[derive(Clone, Copy)]
+#[derive(Clone, Copy, PartialEq, Eq)]
 pub struct File {
     pub number: u8,
     pub max_isn: u16,
@@ -66,7 +67,7 @@ pub struct File {
     pub fields: [Field; MAX_FIELDS],
 }
 
-#[derive(Clone, Copy)]
+#[derive(Clone, Copy, PartialEq, Eq)]
 pub struct Definition {
     pub count: u8,
     pub files: [File; MAX_FILES],
@@ -129,19 +130,17 @@ pub fn file_at(d: Definition, i: usize) -> File
 pub fn field_count(f: File) -> usize
     ensures { result ≡ field_count f }
 {
-    let n = f.count as usize;
-    if n < MAX_FIELDS { n } else { MAX_FIELDS }
+    usize::from(f.count).min(MAX_FIELDS)
 }
 
 pub fn file_count(d: Definition) -> usize
     ensures { result ≡ file_count d }
 {
-    let n = d.count as usize;
-    if n < MAX_FILES { n } else { MAX_FILES }
+    usize::from(d.count).min(MAX_FILES)
 }
 
 pub fn same_name(m: Name, n: Name) -> bool
     ensures { result ≡ same_name m n }
 {
-    m.first == n.first && m.second == n.second
+    m == n
 }

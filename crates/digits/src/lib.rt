@@ -12,68 +12,40 @@ use definition::Format;
 const MAX_DIGIT: u8 = 9;
 
 // Whether a half byte is a sign.
+#[tactic(auto, using(crate::specs::Laws::sign_is))]
 fn is_sign(half: u8) -> bool
     ensures { result ≡ (positive_sign half || negative_sign half) }
 {
-    match half {
-        0xA..=0xF => true,
-        _ => false,
-    }
+    matches!(half, 0xA..=0xF)
 }
 
 fn unpacked_allowed(value: &[u8]) -> bool
     ensures { result ≡ all unpacked_digit value.now }
 {
-    let mut i = 0;
-    while i < value.len() {
-        let byte = value[i];
-        if byte < b'0' {
-            return false;
-        }
-        if byte > b'9' {
-            return false;
-        }
-        i += 1;
-    }
-    true
+    value.iter().all(|byte| matches!(*byte, b'0'..=b'9'))
 }
 
 // Whether both half bytes of each byte are digits.
 fn halves_allowed(bytes: &[u8]) -> bool
     ensures { result ≡ all digit (halves bytes.now) }
 {
-    let mut i = 0;
-    while i < bytes.len() {
-        let byte = bytes[i];
-        if byte / 16 > MAX_DIGIT {
-            return false;
-        }
-        if byte % 16 > MAX_DIGIT {
-            return false;
-        }
-        i += 1;
-    }
-    true
+    bytes
+        .iter()
+        .all(|byte| *byte / 16 <= MAX_DIGIT && *byte % 16 <= MAX_DIGIT)
 }
 
+#[tactic(auto, using(crate::specs::Laws::all_digits), unfolding(crate::specs::Digits::allowed))]
 fn packed_allowed(value: &[u8]) -> bool
     ensures { result ≡ allowed Packed value.now }
 {
-    let n = value.len();
-    if n == 0 {
+    let Some((last, front)) = value.split_last() else {
         return false;
-    }
-    if !halves_allowed(&value[..n - 1]) {
-        return false;
-    }
-    let last = value[n - 1];
-    if last / 16 > MAX_DIGIT {
-        return false;
-    }
-    is_sign(last % 16)
+    };
+    halves_allowed(front) && *last / 16 <= MAX_DIGIT && is_sign(*last % 16)
 }
 
 // Whether the value has no digit and no sign that its format does not allow.
+#[tactic(auto, unfolding(crate::specs::Digits::allowed))]
 pub fn allowed(format: Format, value: &[u8]) -> bool
     ensures { result ≡ allowed format value.now }
 {

@@ -1,17 +1,17 @@
 -- Laws of a format buffer for callers: what a name finds; where the places lie; what valid names have, element by element; that the period alone
 -- names nothing; that no field comes twice; and how long the values are. One step of a loop over a buffer is in `Steps`.
 -- Assumes nothing.
-use Rattle.std.specs.Prelude.{ℕ, suc, ◌+◌, ◌-◌, ◌*◌, ◌≤◌, ◌<◌, refl, true, false, ◌&&◌, leb, get_or, drop, Option, Some, None}
+use Rattle.std.specs.Prelude.{ℕ, suc, ◌+◌, ◌-◌, ◌*◌, ◌≤◌, ◌<◌, refl, Bool, true, false, ◌&&◌, leb, get_or, drop, Option, Some, None, is_some}
 use native.Mathlib.Omega.{arith}
 use Rattle.std.proofs.Math.Path.{◌≡◌, ap}
-use Rattle.std.proofs.Common.{sym, length-drop}
+use Rattle.std.proofs.Common.{sym, length-drop, ◌∙◌}
 use Rattle.std.proofs.Math.Bool.{not}
 use mathlib.Core.List.{List, [], ◌∷◌}
 use Rattle.std.proofs.Math.Dec.{eqb}
 use Rattle.std.proofs.Math.ListN.{length, length-take}
 use Rattle.std.proofs.Math.Seq.{get_or-take, length-take-le}
 use borrow.Author.Tests.{not-true, not-false, eqb-false, leb-true, leb-false}
-use Rattle.lists.specs.Tests.{eqbs_true, Outcome, holds, fails, outcome, not_both, and_left, and_right}
+use Rattle.lists.specs.Tests.{cond, eqbs_true, Outcome, holds, fails, outcome, not_both, and_left, and_right}
 use Rattle.lists.specs.Folds.{all, any, total, distinct, Each, distinct_at}
 use Rattle.definition.specs.Table.{max_fields, no_field, field_at, field_count, fields_of}
 use Rattle.definition.specs.Shape.{FileShape}
@@ -74,7 +74,7 @@ module _ (f : File) where
 pub found_nowhere : (x : Option ℕ) → found x ≡ true → x ≡ None → ⊥
 found_nowhere x t e = not_both false (rw e at t) refl
 
-form_whole : (l : List ℕ) → form l ≡ true → (1 ≤ length (names l)) × (length (names l) * 3 ≡ length l)
+pub form_whole : (l : List ℕ) → form l ≡ true → (1 ≤ length (names l)) × (length (names l) * 3 ≡ length l)
 form_whole [] h = not_both false h refl
 form_whole (a ∷ []) h = not_both false h refl
 form_whole (a ∷ b ∷ []) h = not_both false h refl
@@ -182,6 +182,15 @@ module _ (f : File) (format : List ℕ) (i k : ℕ) (e : element f format i ≡ 
 pub needed_total : (f : File) (format : List ℕ) → length_needed f format ≡ total (length_at f) (places f format)
 unfolding length_needed
 needed_total f format = refl
+
+-- what whether there is an answer says of the room
+pub needed_room : (f : File) (format : List ℕ) (room : ℕ) (r : Option ℕ) (t : Bool) → r ≡ needed_within f format room → is_some r ≡ not t → leb (length_needed f format) room ≡ not t
+unfolding needed_within
+needed_room f format room r t e n = go (leb (length_needed f format) room) (ap is_some (sym e) ∙ n)
+  where
+    go : (b : Bool) → is_some (cond b (Some (length_needed f format)) None) ≡ not t → b ≡ not t
+    go true h = h
+    go false h = h
 
 pub needed_fits : (f : File) (format : List ℕ) (room n : ℕ) → needed_within f format room ≡ Some n → (n ≡ length_needed f format) × (n ≤ room)
 unfolding needed_within

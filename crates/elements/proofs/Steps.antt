@@ -1,17 +1,48 @@
 -- One element of a format buffer after the other: what the buffer says is what its first element says, and what is left of it (`drop 3`) says.
 -- And a buffer of one byte.
 -- Assumes nothing.
-use Rattle.std.specs.Prelude.{ℕ, ◌+◌, ◌-◌, ◌≤◌, ◌<◌, ◌≡◌, false, ◌&&◌, eqb, get_or, drop, Option, Some, None}
+use Rattle.std.specs.List.{position_or_len}
+use Rattle.std.specs.Prelude.{ℕ, suc, ◌+◌, ◌-◌, ◌≤◌, ◌<◌, ◌≡◌, Bool, false, ◌&&◌, eqb, get_or, drop, Option, Some, None}
 use native.Mathlib.Omega.{arith}
 use Rattle.std.proofs.Math.Path.{refl}
-use Rattle.std.proofs.Common.{ap, ◌∙◌, length-drop, drop-drop, get_or-drop}
+use Rattle.std.proofs.Common.{ap, ◌∙◌, length-drop, drop-drop, get_or-drop, lt-ltb, sym}
+use Rattle.std.proofs.lemmas.Bool.{le-ltb, ltb-true, ltb-false}
 use Rattle.std.proofs.Math.Bool.{and-true}
 use mathlib.Core.List.{List, [], ◌∷◌}
 use Rattle.std.proofs.Math.ListN.{length}
 use Rattle.lists.specs.Folds.{total}
+use Rattle.lists.specs.Tests.{cond, Outcome, holds, fails, outcome}
+use Rattle.std.proofs.Math.Dec.{ltb}
+use Rattle.elements.specs.Search.{first_place}
 use Rattle.elements.specs.Elements.{comma, period, names, form, period_alone, field_named, first_named, element, before, places_of, places, length_at, length_of, length_needed}
 use Rattle.definition.specs.declared.Name.{Name}
 use Rattle.definition.specs.declared.File.{File}
+
+-- ---- the first place that passes a test, as the library's `position` gives it
+one_further : (q n : ℕ) → ltb (1 + q) (suc n) ≡ ltb q n
+one_further q n = go (outcome (ltb q n))
+  where
+    go : Outcome (ltb q n) → ltb (1 + q) (suc n) ≡ ltb q n
+    go (holds t) = lt-ltb (1 + q) (suc n) (omega (arith, ltb-true q n t)) ∙ sym t
+    go (fails t) = le-ltb (1 + q) (suc n) (omega (arith, ltb-false q n t)) ∙ sym t
+
+further : (p q n i : ℕ) → q ≡ 1 + p → cond (ltb p n) (Some (i + 1 + p)) None ≡ cond (ltb q (suc n)) (Some (i + q)) None
+further p q n i e = rw (e, one_further p n) (ap (λ k. cond (ltb p n) (Some k) None) (omega arith))
+
+module _ {A : Type 0} (test : A → Bool) where
+  place_position : (l : List A) (i : ℕ) → first_place test l i ≡ cond (ltb (position_or_len test l) (length l)) (Some (i + position_or_len test l)) None
+  place_position [] i = refl
+  place_position (x ∷ xs) i = go (outcome (test x)) (place_position xs (i + 1))
+    where
+      go : Outcome (test x) → first_place test xs (i + 1) ≡ cond (ltb (position_or_len test xs) (length xs)) (Some (i + 1 + position_or_len test xs)) None → first_place test (x ∷ xs) i ≡ cond (ltb (position_or_len test (x ∷ xs)) (length (x ∷ xs))) (Some (i + position_or_len test (x ∷ xs))) None
+      go (holds t) later = let here : i ≡ i + 0 = omega arith in rw (t, ← here, lt-ltb 0 (length (x ∷ xs)) (omega arith))
+      go (fails t) later =
+          let more : position_or_len test (x ∷ xs) ≡ 1 + position_or_len test xs = rw t refl in
+          let left : first_place test (x ∷ xs) i ≡ cond (ltb (position_or_len test xs) (length xs)) (Some (i + 1 + position_or_len test xs)) None = rw t later in
+          left ∙ further (position_or_len test xs) (position_or_len test (x ∷ xs)) (length xs) i more
+
+  pub first_position : (l : List A) → first_place test l 0 ≡ cond (ltb (position_or_len test l) (length l)) (Some (position_or_len test l)) None
+  first_position l = place_position l 0 ∙ ap (λ k. cond (ltb (position_or_len test l) (length l)) (Some k) None) (omega arith)
 
 -- ---- the first element of some bytes
 names_next : (l : List ℕ) → names (drop 3 l) ≡ drop 1 (names l)

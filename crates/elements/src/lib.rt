@@ -20,25 +20,17 @@ fn field_named(f: File, name: Name) -> Option<usize>
     ensures { result ≡ field_named f name }
 {
     let n = definition::field_count(f);
-    let mut i = 0;
-    while i < n {
-        let g = definition::field_at(f, i);
-        if definition::same_name(g.name, name) {
-            return Some(i);
-        }
-        i += 1;
-    }
-    None
+    f.fields[..n]
+        .iter()
+        .position(|g| definition::same_name(g.name, name))
 }
 
 // The place of the field that the element at a byte names. Callers step through a buffer with it, from 0 by `ELEMENT`.
+#[tactic(auto, using(crate::proofs::Steps::element_name, crate::proofs::Steps::element_none))]
 pub fn element(f: File, format: &[u8], at: usize) -> Option<usize>
     ensures { result ≡ element f format.now at }
 {
-    if format.len() <= at {
-        return None;
-    }
-    if format.len() - at < ELEMENT {
+    if format.len().saturating_sub(at) < ELEMENT {
         return None;
     }
     let name = Name {
@@ -49,11 +41,13 @@ pub fn element(f: File, format: &[u8], at: usize) -> Option<usize>
 }
 
 // Whether the bytes have the form of names.
+#[tactic(auto, using(crate::proofs::Steps::form_more, crate::proofs::Steps::form_last, crate::proofs::Steps::form_short))]
 fn form(format: &[u8]) -> bool
     ensures { result ≡ form format.now }
 {
     let n = format.len();
     let mut i = 0;
+    // `while`: where it ends is used behind it.
     while ELEMENT < n - i {
         if format[i + 2] != COMMA {
             return false;
@@ -61,11 +55,7 @@ fn form(format: &[u8]) -> bool
         i += ELEMENT;
     }
     // What is left is the last element, or too few bytes for one.
-    if n - i == ELEMENT {
-        format[i + 2] == PERIOD
-    } else {
-        false
-    }
+    n - i == ELEMENT && format[i + 2] == PERIOD
 }
 
 // Whether the names have their form, and each is a field's.
@@ -75,36 +65,28 @@ fn names_valid(f: File, format: &[u8]) -> bool
     if !form(format) {
         return false;
     }
-    let n = format.len();
-    let mut i = 0;
-    while ELEMENT <= n - i {
-        let found = element(f, format, i);
-        if let None = found {
+    for i in (0..format.len()).step_by(ELEMENT) {
+        if element(f, format, i).is_none() {
             return false;
         }
-        i += ELEMENT;
     }
     true
 }
 
 // Whether the buffer is the period alone.
+#[tactic(auto, using(lists::specs::Tests::eqbs_lengths))]
 fn period_alone(format: &[u8]) -> bool
     ensures { result ≡ period_alone format.now }
 {
-    if format.len() != 1 {
-        return false;
-    }
-    format[0] == PERIOD
+    matches!(format, [PERIOD])
 }
 
 // Whether the buffer is the period alone, or names fields. The period behind names and a comma is no buffer of its own: `form` refuses it.
+#[tactic(auto, unfolding(crate::specs::Elements::format_valid))]
 pub fn format_valid(f: File, format: &[u8]) -> bool
     ensures { result ≡ format_valid f format.now }
 {
-    if period_alone(format) {
-        return true;
-    }
-    names_valid(f, format)
+    period_alone(format) || names_valid(f, format)
 }
 
 // Whether a field is named twice: a flag for each place says whether its field was named before.
@@ -112,16 +94,13 @@ pub fn named_twice(f: File, format: &[u8]) -> bool
     ensures { result ≡ named_twice f format.now }
 {
     let mut seen = [false; MAX_FIELDS];
-    let mut i = 0;
-    while i < format.len() {
-        let found = element(f, format, i);
-        if let Some(k) = found {
+    for i in (0..format.len()).step_by(ELEMENT) {
+        if let Some(k) = element(f, format, i) {
             if seen[k] {
                 return true;
             }
             seen[k] = true;
         }
-        i += ELEMENT;
     }
     false
 }
@@ -130,10 +109,7 @@ pub fn named_twice(f: File, format: &[u8]) -> bool
 fn length_of(f: File, found: Option<usize>) -> usize
     ensures { result ≡ length_of f found }
 {
-    let Some(k) = found else {
-        return 0;
-    };
-    records::field_length(f, k)
+    found.map_or(0, |k| records::field_length(f, k))
 }
 
 // The bytes that the values of the named fields take, one after another, where they fit into the room. The sum never passes the room, so it
@@ -142,15 +118,12 @@ pub fn needed_within(f: File, format: &[u8], room: usize) -> Option<usize>
     ensures { result ≡ needed_within f format.now room }
 {
     let mut sum: usize = 0;
-    let mut i = 0;
-    while i < format.len() {
-        let found = element(f, format, i);
-        let length = length_of(f, found);
+    for i in (0..format.len()).step_by(ELEMENT) {
+        let length = length_of(f, element(f, format, i));
         if room - sum < length {
             return None;
         }
         sum += length;
-        i += ELEMENT;
     }
     Some(sum)
 }

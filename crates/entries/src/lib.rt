@@ -1,12 +1,12 @@
 // An entry of the hold queue, and the word that it lies in. Only this crate knows how; every other goes by `pack` and `unpack`.
 #![tactic(auto)]
 
-ghost use Rattle.std.specs.Prelude.{◌≡◌, ◌<◌};
-ghost use Rattle.entries.specs.Entries.{bit, pack_of, unpack_of};
+ghost use Rattle.std.specs.Prelude.{◌≡◌};
+ghost use Rattle.entries.specs.Entries.{pack_of, unpack_of};
 
 // Who holds an ISN of a file, and whether that changed it.
 #[repr(C)]
-#[derive(Clone, Copy)]
+#[derive(Clone, Copy, PartialEq, Eq)]
 pub struct Entry {
     pub user: u8,
     pub file: u8,
@@ -16,40 +16,20 @@ pub struct Entry {
     pub existed: bool,
 }
 
-fn wide8(x: u8) -> u64
-    ensures value { result ≡ x }
-    ensures upper_bound { result < 256 }
-{
-    x as u64
-}
-
-fn wide16(x: u16) -> u64
-    ensures value { result ≡ x }
-    ensures upper_bound { result < 65536 }
-{
-    x as u64
-}
-
-fn bit(b: bool) -> u64
-    ensures value { result ≡ bit b }
-    ensures upper_bound { result < 2 }
-{
-    if b { 1 } else { 0 }
-}
-
 // An entry as one word.
+#[tactic(auto, unfolding(crate::specs::Entries::pack_of))]
 pub fn pack(e: Entry) -> u64
     ensures { result ≡ pack_of e }
 {
-    let user = wide8(e.user);
-    let file = wide8(e.file);
-    let isn = wide16(e.isn);
-    let changed = bit(e.changed);
-    let existed = bit(e.existed);
-    user + file * 256 + isn * 65536 + changed * 4294967296 + existed * 8589934592
+    u64::from(e.user)
+        + u64::from(e.file) * 256
+        + u64::from(e.isn) * 65536
+        + u64::from(e.changed) * 4294967296
+        + u64::from(e.existed) * 8589934592
 }
 
 // The entry of a word. Bits that no entry uses are not looked at.
+#[tactic(auto, unfolding(crate::specs::Entries::unpack_of))]
 pub fn unpack(w: u64) -> Entry
     ensures { result ≡ unpack_of w }
 {

@@ -25,7 +25,7 @@ ac = record { name = record { first = 65; second = 67 }; length = 1; format = Un
 unfoldable pub three : File
 three = record { number = 1; max_isn = 3; count = 3; fields = set (set (set no_file.fields 0 aa) 1 ab) 2 ac }
 
--- `AB.` `AB,AA.` `Ac,AB.` `AB,AA,AB.`
+-- `AB.` `AB,AA.` `AC,AB.` `AB,AA,AB.`
 only_ab : List ℕ
 only_ab = 65 ∷ 66 ∷ 46 ∷ []
 

@@ -31,13 +31,10 @@ fn span_of(f: File, found: Option<usize>) -> Span
         };
     };
     let g = definition::field_at(f, k);
-    let start = records::field_offset(f, k);
-    let length = g.length as usize;
-    let format = g.format;
     Span {
-        start,
-        length,
-        format,
+        start: records::field_offset(f, k),
+        length: usize::from(g.length),
+        format: g.format,
     }
 }
 
@@ -45,22 +42,17 @@ fn span_of(f: File, found: Option<usize>) -> Span
 fn span_at(f: File, format: &[u8], i: usize) -> Span
     ensures { result ≡ span_of f (element f format.now i) }
 {
-    let found = elements::element(f, format, i);
-    span_of(f, found)
+    span_of(f, elements::element(f, format, i))
 }
 
 // Copies the bytes of a span into the buffer at a place.
+#[tactic(auto, using(lists::specs::Parts::patched_sets, lists::specs::Parts::part_take, lists::specs::Parts::length_piece))]
 fn read_span(s: Span, content: &[u8], buffer: &mut [u8], at: usize)
     requires length_in_bounds { s.start + s.length ≤ length content.now }
     requires length_in_bounds_2 { at + s.length ≤ length buffer.old }
     ensures { buffer.new ≡ sets buffer.old at (span_bytes s content.now) }
 {
-    let start = s.start;
-    let length = s.length;
-    slices::copy(
-        &content[start..start + length],
-        &mut buffer[at..at + length],
-    );
+    buffer[at..at + s.length].copy_from_slice(&content[s.start..s.start + s.length]);
 }
 
 // Puts the value at a place, in stored form, into a span.
@@ -69,24 +61,20 @@ fn write_span(s: Span, values: &[u8], content: &mut [u8], at: usize)
     requires length_in_bounds_2 { at + s.length ≤ length values.now }
     ensures { content.new ≡ span_written s (drop at values.now) content.old }
 {
-    let start = s.start;
-    let length = s.length;
-    let kind = s.format;
     values::put_stored(
-        kind,
-        &values[at..at + length],
-        &mut content[start..start + length],
+        s.format,
+        &values[at..at + s.length],
+        &mut content[s.start..s.start + s.length],
     );
 }
 
 // Whether the value at a place is allowed in a span.
+#[tactic(auto, using(lists::specs::Parts::part_take))]
 fn allowed_span(s: Span, values: &[u8], at: usize) -> bool
     requires { at + s.length ≤ length values.now }
     ensures { result ≡ span_allowed s (drop at values.now) }
 {
-    let length = s.length;
-    let kind = s.format;
-    digits::allowed(kind, &values[at..at + length])
+    digits::allowed(s.format, &values[at..at + s.length])
 }
 
 // Writes the named fields of the record at the front of the record buffer and answers how many bytes those are; writes nothing where the
@@ -95,20 +83,17 @@ pub fn read_fields(f: File, format: &[u8], content: &[u8], buffer: &mut [u8]) ->
     ensures value { result ≡ cond (fits f format.now buffer.old content.now) (length_needed f format.now) 0 }
     ensures buffer_after { buffer.new ≡ read_fields f format.now content.now buffer.old }
 {
-    let needed = elements::needed_within(f, format, buffer.len());
-    let Some(_) = needed else {
+    if elements::needed_within(f, format, buffer.len()).is_none() {
         return 0;
-    };
+    }
     if content.len() < records::record_length(f) {
         return 0;
     }
-    let mut i = 0;
     let mut at = 0;
-    while i < format.len() {
+    for i in (0..format.len()).step_by(ELEMENT) {
         let s = span_at(f, format, i);
         read_span(s, content, buffer, at);
         at += s.length;
-        i += ELEMENT;
     }
     at
 }
@@ -118,20 +103,17 @@ pub fn read_fields(f: File, format: &[u8], content: &[u8], buffer: &mut [u8]) ->
 pub fn write_fields(f: File, format: &[u8], values: &[u8], content: &mut [u8])
     ensures { content.new ≡ write_fields f format.now values.now content.old }
 {
-    let needed = elements::needed_within(f, format, values.len());
-    let Some(_) = needed else {
+    if elements::needed_within(f, format, values.len()).is_none() {
         return;
-    };
+    }
     if content.len() < records::record_length(f) {
         return;
     }
-    let mut i = 0;
     let mut at = 0;
-    while i < format.len() {
+    for i in (0..format.len()).step_by(ELEMENT) {
         let s = span_at(f, format, i);
         write_span(s, values, content, at);
         at += s.length;
-        i += ELEMENT;
     }
 }
 
@@ -139,19 +121,16 @@ pub fn write_fields(f: File, format: &[u8], values: &[u8], content: &mut [u8])
 pub fn values_allowed(f: File, format: &[u8], values: &[u8]) -> bool
     ensures { result ≡ values_allowed f format.now values.now }
 {
-    let needed = elements::needed_within(f, format, values.len());
-    let Some(_) = needed else {
+    if elements::needed_within(f, format, values.len()).is_none() {
         return false;
-    };
-    let mut i = 0;
+    }
     let mut at = 0;
-    while i < format.len() {
+    for i in (0..format.len()).step_by(ELEMENT) {
         let s = span_at(f, format, i);
         if !allowed_span(s, values, at) {
             return false;
         }
         at += s.length;
-        i += ELEMENT;
     }
     true
 }

@@ -17,7 +17,7 @@ use definition::{
 fn within(lo: usize, hi: usize, n: usize) -> bool
     ensures { result ≡ within lo hi n }
 {
-    lo <= n && n <= hi
+    (lo..=hi).contains(&n)
 }
 
 // The greatest length of a field of the format.
@@ -32,35 +32,25 @@ fn max_length(format: Format) -> u8
     }
 }
 
+#[tactic(auto, unfolding(crate::specs::FileValidity::name_valid))]
 fn name_valid(n: Name) -> bool
     ensures { result ≡ name_valid n }
 {
-    let first = n.first;
-    let second = n.second;
-    match first {
-        b'A'..=b'Z' => match second {
-            b'A'..=b'Z' | b'0'..=b'9' => true,
-            _ => false,
-        },
-        _ => false,
-    }
+    matches!(n.first, b'A'..=b'Z') && matches!(n.second, b'A'..=b'Z' | b'0'..=b'9')
 }
 
+#[tactic(auto, unfolding(crate::specs::FileValidity::field_valid))]
 fn field_valid(f: Field) -> bool
     ensures { result ≡ field_valid f }
 {
-    if !name_valid(f.name) {
-        return false;
-    }
-    let format = f.format;
-    within(1, max_length(format) as usize, f.length as usize)
+    name_valid(f.name) && within(1, usize::from(max_length(f.format)), usize::from(f.length))
 }
 
 // A name as one number.
 fn name_number(n: Name) -> u16
     ensures { result ≡ name_number n }
 {
-    n.first as u16 * 256 + n.second as u16
+    u16::from_be_bytes([n.first, n.second])
 }
 
 // Whether the fields are valid, no name stands twice, and they have no more bytes together than a record may. Their names are noted as they are
@@ -71,34 +61,26 @@ fn fields_valid(f: File) -> bool
     let n = definition::field_count(f);
     let mut names = [0u16; MAX_FIELDS];
     let mut length: usize = 0;
-    let mut i = 0;
-    while i < n {
-        let g = f.fields[i];
-        if !field_valid(g) {
+    for (i, field) in f.fields[..n].iter().enumerate() {
+        if !field_valid(*field) {
             return false;
         }
-        let name = name_number(g.name);
-        if membership::among(&names[..i], name) {
+        let name = name_number(field.name);
+        if names[..i].contains(&name) {
             return false;
         }
         names[i] = name;
-        length += g.length as usize;
-        i += 1;
+        length += usize::from(field.length);
     }
     length <= MAX_RECORD_LENGTH
 }
 
+#[tactic(auto, unfolding(crate::specs::FileValidity::file_valid))]
 pub fn file_valid(f: File) -> bool
     ensures { result ≡ file_valid f }
 {
-    if !within(1, MAX_NUMBER, f.number as usize) {
-        return false;
-    }
-    if !within(1, MAX_ISN_LIMIT, f.max_isn as usize) {
-        return false;
-    }
-    if !within(1, MAX_FIELDS, f.count as usize) {
-        return false;
-    }
-    fields_valid(f)
+    within(1, MAX_NUMBER, usize::from(f.number))
+        && within(1, MAX_ISN_LIMIT, usize::from(f.max_isn))
+        && within(1, MAX_FIELDS, usize::from(f.count))
+        && fields_valid(f)
 }

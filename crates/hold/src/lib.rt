@@ -20,10 +20,8 @@ fn file_numbers(d: Definition) -> [u8; MAX_FILES]
     ensures { result ≡ map file_number d.files }
 {
     let mut numbers = [0u8; MAX_FILES];
-    let mut i = 0;
-    while i < MAX_FILES {
-        numbers[i] = d.files[i].number;
-        i += 1;
+    for (i, file) in d.files.iter().enumerate() {
+        numbers[i] = file.number;
     }
     numbers
 }
@@ -35,12 +33,9 @@ fn file_starts(d: Definition) -> [usize; STARTS]
     let n = definition::file_count(d);
     let mut starts = [0usize; STARTS];
     let mut sum: usize = 0;
-    let mut i = 0;
-    while i < n {
-        let f = d.files[i];
-        sum += layout::file_size(f);
-        i += 1;
-        starts[i] = sum;
+    for i in 0..n {
+        sum += layout::file_size(d.files[i]);
+        starts[i + 1] = sum;
     }
     starts
 }
@@ -49,12 +44,10 @@ fn file_starts(d: Definition) -> [usize; STARTS]
 fn place(numbers: &[u8], number: u8) -> Option<usize>
     ensures { result ≡ seek_number number numbers.now 0 }
 {
-    let mut i = 0;
-    while i < numbers.len() {
-        if numbers[i] == number {
+    for (i, other) in numbers.iter().enumerate() {
+        if *other == number {
             return Some(i);
         }
-        i += 1;
     }
     None
 }
@@ -77,7 +70,7 @@ fn put_back_in(f: File, e: Entry, image: &[u8], part: &mut [u8])
     ensures { part.new ≡ put_back_in f e image.now part.old }
 {
     if e.existed {
-        let n = slices::least(records::record_length(f), image.len());
+        let n = records::record_length(f).min(image.len());
         store::put_record(f, part, e.isn, &image[..n]);
         return;
     }
@@ -112,19 +105,18 @@ fn put_back_all(
     requires d_in_bounds { store_size d ≤ length store.old }
     ensures { store.new ≡ restored d width user (entries queue.now count) images.now store.old }
 {
-    let n = slices::least(count, queue.len());
-    let mut i = 0;
-    while i < n {
+    let n = count.min(queue.len());
+    for i in 0..n {
         let e = entries::unpack(queue[i]);
         let at = i * width;
-        i += 1;
         let found = undone_at(numbers, user, e);
-        if let Some(k) = found {
-            let f = d.files[k];
-            let start = starts[k];
-            let end = starts[k + 1];
-            put_back(f, start, end, e, &images[at..at + width], store);
-        }
+        let Some(k) = found else {
+            continue;
+        };
+        let f = d.files[k];
+        let start = starts[k];
+        let end = starts[k + 1];
+        put_back(f, start, end, e, &images[at..at + width], store);
     }
 }
 

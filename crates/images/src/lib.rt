@@ -9,15 +9,17 @@ ghost use Rattle.images.specs.Images.{counts, has_at, hold_of, taken_by, image_h
 use entries::Entry;
 
 // Whether the bytes stand in `s` at an offset.
+#[tactic(auto, using(lists::specs::Parts::part_least))]
 fn has_at(s: &[u8], offset: usize, value: &[u8]) -> bool
     ensures { result ≡ has_at offset value.now s.now }
 {
-    let start = slices::least(offset, s.len());
-    let end = start + slices::least(value.len(), s.len() - start);
+    let start = offset.min(s.len());
+    let end = start + value.len().min(s.len() - start);
     slices::same(&s[start..end], value)
 }
 
 // Whether the bytes stand in the i-th image at an offset.
+#[tactic(auto, using(lists::specs::Parts::part_least))]
 fn image_has_at(images: &[u8], i: usize, width: usize, offset: usize, value: &[u8]) -> bool
     ensures { result ≡ has_at offset value.now (take width (drop (i * width) images.now)) }
 {
@@ -25,7 +27,7 @@ fn image_has_at(images: &[u8], i: usize, width: usize, offset: usize, value: &[u
         return has_at(&images[..0], offset, value);
     }
     let start = i * width;
-    let end = start + slices::least(width, images.len() - start);
+    let end = start + width.min(images.len() - start);
     has_at(&images[start..end], offset, value)
 }
 
@@ -34,13 +36,7 @@ fn image_has_at(images: &[u8], i: usize, width: usize, offset: usize, value: &[u
 fn counts(e: Entry, user: u8, file: u8) -> bool
     ensures { result ≡ counts user file e }
 {
-    if e.user == user {
-        return false;
-    }
-    if e.file != file {
-        return false;
-    }
-    e.changed && e.existed
+    e.user != user && e.file == file && e.changed && e.existed
 }
 
 // Whether the i-th image counts and has the bytes at an offset.
@@ -56,10 +52,7 @@ fn taken_by(
 ) -> bool
     ensures { result ≡ taken_by user file offset value.now (hold_of e (take width (drop (i * width) images.now))) }
 {
-    if !counts(e, user, file) {
-        return false;
-    }
-    image_has_at(images, i, width, offset, value)
+    counts(e, user, file) && image_has_at(images, i, width, offset, value)
 }
 
 // Whether an image that counts has the bytes at an offset.
@@ -75,14 +68,20 @@ pub fn image_has(
 ) -> bool
     ensures { result ≡ image_has (entries queue.now count) images.now width user file offset value.now }
 {
-    let n = slices::least(count, queue.len());
-    let mut i = 0;
-    while i < n {
-        let e = entries::unpack(queue[i]);
-        if taken_by(e, images, i, width, user, file, offset, value) {
+    let n = count.min(queue.len());
+    for (i, word) in queue[..n].iter().enumerate() {
+        if taken_by(
+            entries::unpack(*word),
+            images,
+            i,
+            width,
+            user,
+            file,
+            offset,
+            value,
+        ) {
             return true;
         }
-        i += 1;
     }
     false
 }

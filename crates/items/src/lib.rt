@@ -14,6 +14,7 @@ pub enum Item {
     End,
 }
 
+#[tactic(auto, unfolding(crate::specs::Items::format_of))]
 fn format_of(b: u8) -> Option<Format>
     ensures { result ≡ format_of b }
 {
@@ -26,6 +27,7 @@ fn format_of(b: u8) -> Option<Format>
     }
 }
 
+#[tactic(auto, unfolding(crate::specs::Items::option_of))]
 fn option_of(b: u8) -> Option<FieldOption>
     ensures { result ≡ option_of b }
 {
@@ -37,49 +39,46 @@ fn option_of(b: u8) -> Option<FieldOption>
     }
 }
 
+#[tactic(auto, unfolding(crate::specs::Items::file_item))]
 fn file_item(body: &[u8]) -> Option<Item>
     ensures { result ≡ file_item body.now }
 {
-    if body.len() < 3 {
+    let [number, high, low, ..] = *body else {
         return None;
-    }
+    };
     Some(Item::File {
-        number: body[0],
-        max_isn: (body[1] as u16) * 256 + (body[2] as u16),
+        number,
+        max_isn: u16::from_be_bytes([high, low]),
     })
 }
 
+#[tactic(auto, unfolding(crate::specs::Items::field_item))]
 fn field_item(body: &[u8]) -> Option<Item>
     ensures { result ≡ field_item body.now }
 {
-    if body.len() < 5 {
+    let [first, second, length, format, option, ..] = *body else {
         return None;
-    }
-    let format = format_of(body[3])?;
-    let option = option_of(body[4])?;
+    };
     Some(Item::Field(Field {
-        name: Name {
-            first: body[0],
-            second: body[1],
-        },
-        length: body[2],
-        format,
-        option,
+        name: Name { first, second },
+        length,
+        format: format_of(format)?,
+        option: option_of(option)?,
     }))
 }
 
 // The item that the bytes begin with, or none that is right.
+#[tactic(auto, unfolding(crate::specs::Items::item_of))]
 pub fn first_item(bytes: &[u8]) -> Option<Item>
     ensures { result ≡ item_of bytes.now }
 {
-    if bytes.len() == 0 {
+    let [kind, body @ ..] = bytes else {
         return None;
-    }
-    let kind = bytes[0];
-    match kind {
+    };
+    match *kind {
         0 => Some(Item::End),
-        1 => file_item(&bytes[1..]),
-        2 => field_item(&bytes[1..]),
+        1 => file_item(body),
+        2 => field_item(body),
         _ => None,
     }
 }

@@ -28,8 +28,9 @@ pub struct KeptFile {
     pub fields: [KeptField; MAX_FIELDS],
 }
 
-// ---- formats and options, numbered from 0 in their order
+// ---- formats and options, numbered from 0 in their order, as the C interface numbers them
 
+#[tactic(auto, unfolding(crate::specs::KeptTables::format_numbered))]
 fn format_numbered(n: u8) -> Format
     ensures { result ≡ format_numbered n }
 {
@@ -41,6 +42,7 @@ fn format_numbered(n: u8) -> Format
     }
 }
 
+#[tactic(auto, unfolding(crate::specs::KeptTables::option_numbered))]
 fn option_numbered(n: u8) -> FieldOption
     ensures { result ≡ option_numbered n }
 {
@@ -77,66 +79,46 @@ fn option_number(option: FieldOption) -> u8
 fn in_use(count: u8, places: usize) -> usize
     ensures { result ≡ min count places }
 {
-    let n = count as usize;
-    if n < places { n } else { places }
+    usize::from(count).min(places)
 }
 
 // ---- whether every byte in use is the number of a format or an option
 
+#[tactic(auto, unfolding(crate::specs::KeptTables::bytes_known))]
 fn bytes_known(k: KeptField) -> bool
     ensures { result ≡ bytes_known k }
 {
-    if 3 < k.format {
-        return false;
-    }
-    k.option < 3
+    k.format < 4 && k.option < 3
 }
 
 fn fields_known(k: KeptFile) -> bool
     ensures { result ≡ fields_known k }
 {
     let n = in_use(k.count, MAX_FIELDS);
-    let mut i = 0;
-    while i < n {
-        let field = k.fields[i];
-        if !bytes_known(field) {
-            return false;
-        }
-        i += 1;
-    }
-    true
+    k.fields[..n].iter().all(|field| bytes_known(*field))
 }
 
 pub fn files_known(count: u8, files: [KeptFile; MAX_FILES]) -> bool
     ensures { result ≡ files_known count files }
 {
     let n = in_use(count, MAX_FILES);
-    let mut i = 0;
-    while i < n {
-        let file = files[i];
-        if !fields_known(file) {
-            return false;
-        }
-        i += 1;
-    }
-    true
+    files[..n].iter().all(|file| fields_known(*file))
 }
 
 // ---- from what is kept. Only places in use are looked at, which are few: one behind a count is thawed as an empty one
 
+#[tactic(auto, unfolding(crate::specs::KeptTables::thawed_field))]
 fn thawed_field(k: KeptField) -> Field
     ensures { result ≡ thawed_field k }
 {
-    let format = format_numbered(k.format);
-    let option = option_numbered(k.option);
     Field {
         name: Name {
             first: k.first,
             second: k.second,
         },
         length: k.length,
-        format,
-        option,
+        format: format_numbered(k.format),
+        option: option_numbered(k.option),
     }
 }
 
@@ -144,13 +126,9 @@ fn thawed_file(k: KeptFile) -> File
     ensures { result ≡ thawed_file k }
 {
     let n = in_use(k.count, MAX_FIELDS);
-    let blank = definition::no_file();
-    let mut fields = blank.fields;
-    let mut i = 0;
-    while i < n {
-        let field = k.fields[i];
-        fields[i] = thawed_field(field);
-        i += 1;
+    let mut fields = definition::no_file().fields;
+    for (i, field) in k.fields[..n].iter().enumerate() {
+        fields[i] = thawed_field(*field);
     }
     File {
         number: k.number,
@@ -165,61 +143,40 @@ pub fn thawed_files(count: u8, kept: [KeptFile; MAX_FILES]) -> [File; MAX_FILES]
 {
     let n = in_use(count, MAX_FILES);
     let mut files = [definition::no_file(); MAX_FILES];
-    let mut i = 0;
-    while i < n {
-        let file = kept[i];
-        files[i] = thawed_file(file);
-        i += 1;
+    for (i, file) in kept[..n].iter().enumerate() {
+        files[i] = thawed_file(*file);
     }
     files
 }
 
 // ---- to what is kept
 
+#[tactic(auto, unfolding(crate::specs::KeptTables::frozen_field))]
 fn frozen_field(f: Field) -> KeptField
     ensures { result ≡ frozen_field f }
 {
-    let name = f.name;
-    let format = f.format;
-    let option = f.option;
     KeptField {
-        first: name.first,
-        second: name.second,
+        first: f.name.first,
+        second: f.name.second,
         length: f.length,
-        format: format_number(format),
-        option: option_number(option),
+        format: format_number(f.format),
+        option: option_number(f.option),
     }
 }
 
 fn frozen_file(f: File) -> KeptFile
     ensures { result ≡ frozen_file f }
 {
-    let first = f.fields[0];
-    let mut fields = [frozen_field(first); MAX_FIELDS];
-    let mut i = 0;
-    while i < MAX_FIELDS {
-        let field = f.fields[i];
-        fields[i] = frozen_field(field);
-        i += 1;
-    }
     KeptFile {
         number: f.number,
         count: f.count,
         max_isn: f.max_isn,
-        fields,
+        fields: f.fields.map(frozen_field),
     }
 }
 
 pub fn frozen_files(files: [File; MAX_FILES]) -> [KeptFile; MAX_FILES]
     ensures { result ≡ map frozen_file files }
 {
-    let first = files[0];
-    let mut kept = [frozen_file(first); MAX_FILES];
-    let mut i = 0;
-    while i < MAX_FILES {
-        let file = files[i];
-        kept[i] = frozen_file(file);
-        i += 1;
-    }
-    kept
+    files.map(frozen_file)
 }

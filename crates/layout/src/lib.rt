@@ -2,7 +2,7 @@
 // bytes.
 #![tactic(auto)]
 
-ghost use Rattle.std.specs.Prelude.{◌≡◌, max};
+ghost use Rattle.std.specs.Prelude.{◌≡◌};
 ghost use Rattle.records.specs.Records.{file_size};
 ghost use Rattle.layout.specs.Layout.{file_offset, store_size, image_length, place};
 
@@ -12,20 +12,17 @@ use definition::{Definition, File, MAX_FILES};
 pub fn file_size(f: File) -> usize
     ensures { result ≡ file_size f }
 {
-    (f.max_isn as usize) * records::slot_length(f)
+    usize::from(f.max_isn) * records::slot_length(f)
 }
 
 // Where the first slot of the i-th file, from 0, begins in the store; past the last file, the store's size.
 pub fn file_offset(d: Definition, i: usize) -> usize
     ensures { result ≡ file_offset d i }
 {
-    let n = slices::least(i, definition::file_count(d));
+    let n = i.min(definition::file_count(d));
     let mut sum: usize = 0;
-    let mut j = 0;
-    while j < n {
-        let f = d.files[j];
-        sum += file_size(f);
-        j += 1;
+    for f in &d.files[..n] {
+        sum += file_size(*f);
     }
     sum
 }
@@ -36,23 +33,14 @@ pub fn store_size(d: Definition) -> usize
     file_offset(d, MAX_FILES)
 }
 
-fn greatest(a: usize, b: usize) -> usize
-    ensures { result ≡ max a b }
-{
-    if a < b { b } else { a }
-}
-
 // The bytes of an image: the greatest record length.
 pub fn image_length(d: Definition) -> usize
     ensures { result ≡ image_length d }
 {
     let n = definition::file_count(d);
     let mut most: usize = 0;
-    let mut i = 0;
-    while i < n {
-        let f = d.files[i];
-        most = greatest(most, records::record_length(f));
-        i += 1;
+    for file in &d.files[..n] {
+        most = most.max(records::record_length(*file));
     }
     most
 }
@@ -62,13 +50,10 @@ pub fn place(d: Definition, number: u8) -> Option<usize>
     ensures { result ≡ place d number }
 {
     let n = definition::file_count(d);
-    let mut i = 0;
-    while i < n {
-        let other = d.files[i].number;
-        if other == number {
+    for (i, file) in d.files[..n].iter().enumerate() {
+        if file.number == number {
             return Some(i);
         }
-        i += 1;
     }
     None
 }

@@ -8,12 +8,5 @@ ghost use Rattle.lists.specs.Folds.{any};
 pub fn among(numbers: &[u16], number: u16) -> bool
     ensures { result ≡ any (eqb number) numbers.now }
 {
-    let mut i = 0;
-    while i < numbers.len() {
-        if number == numbers[i] {
-            return true;
-        }
-        i += 1;
-    }
-    false
+    numbers.contains(&number)
 }

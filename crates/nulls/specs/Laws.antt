@@ -13,7 +13,7 @@ use Rattle.records.specs.Records.{field_length, record_length}
 use Rattle.records.specs.Laws.{field_offset_is, record_length_is}
 use Rattle.values.specs.Values.{null_value}
 use Rattle.values.specs.Laws.{null_length}
-use Rattle.elements.specs.Elements.{places, length_at}
+use Rattle.elements.specs.Elements.{length_at}
 use Rattle.fields.specs.Fields.{field_bytes}
 use Rattle.nulls.specs.Nulls.{nulls, null_record}
 use Rattle.definition.specs.declared.Field.{Field}

@@ -9,6 +9,7 @@ ghost use Rattle.nulls.specs.Nulls.{null_record};
 use definition::{File, Format};
 
 // Puts the null value of a format into so many bytes of the record.
+#[tactic(auto, using(lists::specs::Parts::patched_sets, values::specs::Laws::null_length))]
 fn null_at(kind: Format, size: usize, content: &mut [u8], start: usize)
     requires { start + size ≤ length content.old }
     ensures { content.new ≡ sets content.old start (null_value kind size) }
@@ -23,17 +24,13 @@ pub fn put_nulls(f: File, content: &mut [u8])
     if content.len() < records::record_length(f) {
         return;
     }
-    let n = definition::field_count(f);
-    let mut k = 0;
-    while k < n {
+    for k in 0..definition::field_count(f) {
         let g = definition::field_at(f, k);
-        let kind = g.format;
         null_at(
-            kind,
-            g.length as usize,
+            g.format,
+            usize::from(g.length),
             content,
             records::field_offset(f, k),
         );
-        k += 1;
     }
 }

@@ -1,6 +1,6 @@
 -- Laws of the hold queue: what looking up finds, and counting; what adding an entry makes of the list of entries.
 -- Assumes nothing.
-use Rattle.std.specs.Prelude.{ℕ, zero, suc, ◌+◌, ◌≤◌, ◌<◌, ◌≡◌, refl, Bool, true, false, not, List, [], ◌∷◌, ◌++◌, map, eqb, length, get_or, set, Option, Some, None}
+use Rattle.std.specs.Prelude.{ℕ, zero, suc, ◌+◌, ◌≤◌, ◌<◌, ◌≡◌, refl, Bool, true, false, not, List, [], ◌∷◌, ◌++◌, map, eqb, length, get_or, set, Option, Some, None, is_some}
 use Rattle.std.proofs.Common.{suc-le-suc, le_of_suc-le-suc, arith, sym, ap, ◌∙◌, length-set, get_or-set_same, eqb-true}
 use Rattle.std.proofs.Math.Seq.{set_out}
 use Rattle.std.proofs.lemmas.Bool.{not-true}
@@ -28,6 +28,13 @@ held_seek file isn (e ∷ es) i = go (outcome (is_of file isn e)) (held_seek fil
 pub held_any : (file isn : ℕ) (es : List Entry) → is_held (holder es file isn) ≡ any (is_of file isn) es
 unfolding holder
 held_any file isn es = held_seek file isn es 0
+
+pub held_some : (file isn : ℕ) (es : List Entry) → is_some (holder es file isn) ≡ any (is_of file isn) es
+held_some file isn es = go (holder es file isn) ∙ held_any file isn es
+  where
+    go : (r : Option (ℕ × Entry)) → is_some r ≡ is_held r
+    go (Some (i, e)) = refl
+    go None = refl
 
 -- what a lookup that finds says
 pub record Found (es : List Entry) (file isn i : ℕ) (e : Entry) : Type 0 where

@@ -18,14 +18,12 @@ fn is_of(e: Entry, file: u8, isn: u16) -> bool
 pub fn holder(queue: &[u64], count: usize, file: u8, isn: u16) -> Option<(usize, Entry)>
     ensures { result ≡ holder (entries queue.now count) file isn }
 {
-    let n = slices::least(count, queue.len());
-    let mut i = 0;
-    while i < n {
-        let e = entries::unpack(queue[i]);
+    let n = count.min(queue.len());
+    for (i, word) in queue[..n].iter().enumerate() {
+        let e = entries::unpack(*word);
         if is_of(e, file, isn) {
             return Some((i, e));
         }
-        i += 1;
     }
     None
 }
@@ -34,20 +32,15 @@ pub fn holder(queue: &[u64], count: usize, file: u8, isn: u16) -> Option<(usize,
 pub fn held_by(queue: &[u64], count: usize, user: u8) -> usize
     ensures { result ≡ held_by (entries queue.now count) user }
 {
-    let n = slices::least(count, queue.len());
-    let mut sum: usize = 0;
-    let mut i = 0;
-    while i < n {
-        let e = entries::unpack(queue[i]);
-        if e.user == user {
-            sum += 1;
-        }
-        i += 1;
-    }
-    sum
+    let n = count.min(queue.len());
+    queue[..n]
+        .iter()
+        .filter(|word| entries::unpack(**word).user == user)
+        .count()
 }
 
 // A new entry, the youngest, where there is room.
+#[tactic(auto, using(crate::specs::Laws::append_full), unfolding(crate::specs::Queue::append))]
 pub fn append(queue: &mut [u64], count: usize, e: Entry)
     ensures { queue.new ≡ append queue.old count e }
 {

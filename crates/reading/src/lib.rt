@@ -4,7 +4,7 @@
 ghost use Rattle.std.specs.Prelude.{◌≡◌, true};
 ghost use Rattle.reading.specs.Grammar.{room_for_file, room_for_field, add_file, add_field, broken, read_table};
 
-use definition::{Definition, Field, MAX_FIELDS, MAX_FILES};
+use definition::{Definition, Field, File, MAX_FIELDS, MAX_FILES};
 use items::Item;
 
 // A table that was read. Where it is broken the definition has no file.
@@ -22,54 +22,40 @@ const FIELD_ITEM: usize = 6;
 fn broken() -> Reading
     ensures { result ≡ broken }
 {
-    let definition = definition::no_definition();
     Reading {
         end: None,
-        definition,
+        definition: definition::no_definition(),
     }
 }
 
-fn add_file(d: Definition, number: u8, max_isn: u16) -> Definition
+fn add_file(mut d: Definition, number: u8, max_isn: u16) -> Definition
     requires { room_for_file d ≡ true }
     ensures { result ≡ add_file d number max_isn }
 {
-    let mut f = definition::no_file();
-    f.number = number;
-    f.max_isn = max_isn;
-    let mut next = d;
-    let at = d.count as usize;
-    next.files[at] = f;
-    next.count = d.count + 1;
-    next
+    d.files[usize::from(d.count)] = File {
+        number,
+        max_isn,
+        ..definition::no_file()
+    };
+    d.count += 1;
+    d
 }
 
 fn room_for_field(d: Definition) -> bool
     ensures { result ≡ room_for_field d }
 {
-    let n = d.count as usize;
-    if n < 1 {
-        return false;
-    }
-    if MAX_FILES < n {
-        return false;
-    }
-    let last = n - 1;
-    let f = d.files[last];
-    (f.count as usize) < MAX_FIELDS
+    let n = usize::from(d.count);
+    (1..=MAX_FILES).contains(&n) && usize::from(d.files[n - 1].count) < MAX_FIELDS
 }
 
-fn add_field(d: Definition, f: Field) -> Definition
+fn add_field(mut d: Definition, f: Field) -> Definition
     requires { room_for_field d ≡ true }
     ensures { result ≡ add_field d f }
 {
-    let last = (d.count - 1) as usize;
-    let mut g = d.files[last];
-    let at = g.count as usize;
-    g.fields[at] = f;
-    g.count = g.count + 1;
-    let mut next = d;
-    next.files[last] = g;
-    next
+    let g = &mut d.files[usize::from(d.count) - 1];
+    g.fields[usize::from(g.count)] = f;
+    g.count += 1;
+    d
 }
 
 // The table at the front of the bytes. Whoever wants nothing after it compares its end with their length.
@@ -78,13 +64,14 @@ pub fn read(bytes: &[u8]) -> Reading
 {
     let mut d = definition::no_definition();
     let mut at = 0;
+    // `while`: an item's kind says how far the next one is.
     while at < bytes.len() {
         let Some(item) = items::first_item(&bytes[at..]) else {
             return broken();
         };
         match item {
             Item::File { number, max_isn } => {
-                if MAX_FILES <= d.count as usize {
+                if MAX_FILES <= usize::from(d.count) {
                     return broken();
                 }
                 d = add_file(d, number, max_isn);

@@ -12,7 +12,7 @@ pub fn field_length(f: File, k: usize) -> usize
     ensures { result ≡ field_length (field_at f k) }
 {
     let g = definition::field_at(f, k);
-    g.length as usize
+    usize::from(g.length)
 }
 
 // Where the k-th field of a file, from 0, begins in its record; past the last field, the record's length. Always sixteen turns: these are
@@ -20,15 +20,12 @@ pub fn field_length(f: File, k: usize) -> usize
 pub fn field_offset(f: File, k: usize) -> usize
     ensures { result ≡ field_offset f k }
 {
-    let n = slices::least(k, definition::field_count(f));
+    let n = k.min(definition::field_count(f));
     let mut sum: usize = 0;
-    let mut i = 0;
-    while i < MAX_FIELDS {
+    for i in 0..MAX_FIELDS {
         if i < n {
-            let length = f.fields[i].length;
-            sum += length as usize;
+            sum += usize::from(f.fields[i].length);
         }
-        i += 1;
     }
     sum
 }
@@ -53,5 +50,5 @@ pub fn slot_offset(f: File, isn: u16) -> usize
     if isn == 0 {
         return 0;
     }
-    (isn as usize - 1) * slot_length(f)
+    usize::from(isn - 1) * slot_length(f)
 }

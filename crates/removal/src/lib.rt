@@ -29,18 +29,6 @@ fn goes(which: Removal, e: Entry) -> bool
     }
 }
 
-// Copies n bytes to an earlier place.
-fn copy_down(s: &mut [u8], from: usize, to: usize, n: usize)
-    requires { (to + n ≤ from) × (from + n ≤ length s.old) }
-    ensures { s.new ≡ paste s.old to (drop from s.old) n }
-{
-    let mut j = 0;
-    while j < n {
-        s[to + j] = s[from + j];
-        j += 1;
-    }
-}
-
 // An entry and its image come to an earlier place, or stay where they are.
 fn move_entry(queue: &mut [u64], images: &mut [u8], width: usize, from: usize, to: usize)
     requires { (to ≤ from) × (from < length queue.old) × ((from + 1) * width ≤ length images.old) }
@@ -51,7 +39,8 @@ fn move_entry(queue: &mut [u64], images: &mut [u8], width: usize, from: usize, t
         return;
     }
     queue[to] = queue[from];
-    copy_down(images, from * width, to * width, width);
+    let start = from * width;
+    images.copy_within(start..start + width, to * width);
 }
 
 // Removes entries with their images and closes the gaps; answers how many entries are left. Nothing changes where the queue or the images
@@ -74,14 +63,11 @@ pub fn remove(
         return count;
     }
     let mut kept: usize = 0;
-    let mut i = 0;
-    while i < count {
-        let e = entries::unpack(queue[i]);
-        if !goes(which, e) {
+    for i in 0..count {
+        if !goes(which, entries::unpack(queue[i])) {
             move_entry(queue, images, width, i, kept);
             kept += 1;
         }
-        i += 1;
     }
     kept
 }
@@ -91,17 +77,14 @@ pub fn pick_out(queue: &[u64], count: usize, which: Removal, out: &mut [u64]) ->
     ensures value { result ≡ length (picked_out queue.now count which (length out.old)) }
     ensures out_after { out.new ≡ sets out.old 0 (picked_out queue.now count which (length out.old)) }
 {
-    let n = slices::least(count, queue.len());
+    let n = count.min(queue.len());
     let mut written: usize = 0;
-    let mut i = 0;
-    while i < n {
+    for word in &queue[..n] {
         if written == out.len() {
             return written;
         }
-        let word = queue[i];
-        i += 1;
-        if goes(which, entries::unpack(word)) {
-            out[written] = word;
+        if goes(which, entries::unpack(*word)) {
+            out[written] = *word;
             written += 1;
         }
     }

@@ -12,12 +12,14 @@ use entries::Entry;
 
 // A bit of a table of 4096 for each file and ISN. Some share one, so a bit that is set says only that it is worth looking; a table with a bit for each
 // would take longer to clear than most queues to pass.
+#[tactic(auto, unfolding(crate::specs::Marks::key))]
 fn key(e: Entry) -> usize
     ensures { result ≡ key e }
 {
-    (e.file as usize * 259 + e.isn as usize) % 4096
+    (usize::from(e.file) * 259 + usize::from(e.isn)) % 4096
 }
 
+#[tactic(auto, unfolding(crate::specs::Marks::marked))]
 fn marked(table: &[u64; 64], k: usize) -> bool
     requires { k < 4096 }
     ensures { result ≡ marked table.now k }
@@ -29,38 +31,31 @@ fn set_mark(table: &mut [u64; 64], k: usize)
     requires { k < 4096 }
     ensures { table.new ≡ set_mark table.old k }
 {
-    table[k / 64] = table[k / 64] | (1u64 << (k % 64));
+    table[k / 64] |= 1u64 << (k % 64);
 }
 
 // Whether one of the first `count` entries, which are all marked, is of the file and ISN of `e`. It is looked for only where the table has
 // its mark.
+#[tactic(auto, using(crate::specs::Marks::key_small, crate::specs::Marks::unmarked_none))]
 fn held_before(queue: &[u64], count: usize, table: &[u64; 64], e: Entry) -> bool
     requires { all_marked table.now (entries queue.now count) ≡ true }
     ensures { result ≡ any (is_of e.file e.isn) (entries queue.now count) }
 {
-    if !marked(table, key(e)) {
-        return false;
-    }
-    let Some((_, _)) = queue::holder(queue, count, e.file, e.isn) else {
-        return false;
-    };
-    true
+    marked(table, key(e)) && queue::holder(queue, count, e.file, e.isn).is_some()
 }
 
 // Whether some file and ISN stand in two entries.
 pub fn repeated(queue: &[u64], count: usize) -> bool
     ensures { result ≡ repeated (entries queue.now count) }
 {
-    let n = slices::least(count, queue.len());
+    let n = count.min(queue.len());
     let mut table = [0u64; 64];
-    let mut i: usize = 0;
-    while i < n {
-        let e = entries::unpack(queue[i]);
+    for (i, word) in queue[..n].iter().enumerate() {
+        let e = entries::unpack(*word);
         if held_before(queue, i, &table, e) {
             return true;
         }
         set_mark(&mut table, key(e));
-        i += 1;
     }
     false
 }

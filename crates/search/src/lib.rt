@@ -10,6 +10,7 @@ ghost use Rattle.search.specs.Search.{first_of, held, has_field, lowest, elsewhe
 use definition::File;
 
 // The first slot with a record, of those from `from` to `last`.
+#[tactic(auto, using(lists::specs::Numbers::from_to_more, lists::specs::Numbers::from_to_none, store::specs::Slots::recorded_here, store::specs::Slots::slot_room))]
 fn first_record(part: &[u8], size: usize, from: usize, last: usize) -> Option<u16>
     requires le_size { 1 ≤ size }
     requires le_from { 1 ≤ from }
@@ -17,17 +18,10 @@ fn first_record(part: &[u8], size: usize, from: usize, last: usize) -> Option<u1
     requires size_in_bounds { last * size ≤ length part.now }
     ensures { result ≡ first_of (recorded last size part.now) (from_to from last) }
 {
-    if last < from {
-        return None;
-    }
-    let mut at = (from - 1) * size;
-    let mut isn = from;
-    while isn <= last {
-        if part[at] == 1 {
+    for isn in from..=last {
+        if part[(isn - 1) * size] == 1 {
             return Some(isn as u16);
         }
-        at += size;
-        isn += 1;
     }
     None
 }
@@ -41,7 +35,7 @@ pub fn lowest(f: File, part: &[u8], from: u16) -> Option<u16>
     if from == 0 {
         return first_record(part, size, 1, last);
     }
-    first_record(part, size, from as usize, last)
+    first_record(part, size, usize::from(from), last)
 }
 
 // Whether the slot that begins at `at` has a record with the value at an offset.
@@ -49,31 +43,22 @@ fn has_field(part: &[u8], at: usize, offset: usize, value: &[u8]) -> bool
     requires { at + 1 + offset + length value.now ≤ length part.now }
     ensures { result ≡ has_field part.now at offset value.now }
 {
-    if part[at] != 1 {
-        return false;
-    }
     let start = at + 1 + offset;
-    let end = start + value.len();
-    slices::same(&part[start..end], value)
+    part[at] == 1 && slices::same(&part[start..start + value.len()], value)
 }
 
 // Whether a slot other than `isn`, of those up to `last`, has a record with the value at an offset.
+#[tactic(auto, using(lists::specs::Numbers::from_to_none, store::specs::Slots::slot_room))]
 fn other_has(part: &[u8], size: usize, last: usize, isn: usize, offset: usize, value: &[u8]) -> bool
     requires last_bound { last < 65536 }
     requires size_in_bounds { last * size ≤ length part.now }
     requires value_bound { 1 + offset + length value.now ≤ size }
     ensures { result ≡ any (held last size part.now isn offset value.now) (from_to 1 last) }
 {
-    let mut at = 0;
-    let mut other = 1;
-    while other <= last {
-        if other != isn {
-            if has_field(part, at, offset, value) {
-                return true;
-            }
+    for other in 1..=last {
+        if other != isn && has_field(part, (other - 1) * size, offset, value) {
+            return true;
         }
-        at += size;
-        other += 1;
     }
     false
 }
@@ -91,5 +76,5 @@ pub fn elsewhere(f: File, part: &[u8], place: usize, isn: u16, value: &[u8]) -> 
     let offset = records::field_offset(f, place);
     let size = records::slot_length(f);
     let last = store::slot_count(f, part.len());
-    other_has(part, size, last, isn as usize, offset, value)
+    other_has(part, size, last, usize::from(isn), offset, value)
 }

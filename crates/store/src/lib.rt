@@ -15,35 +15,25 @@ use definition::File;
 pub fn slot_count(f: File, bytes: usize) -> usize
     ensures { result ≡ slot_count f bytes }
 {
-    let whole = bytes / records::slot_length(f);
-    let most = f.max_isn as usize;
-    if whole < most {
-        return whole;
-    }
-    most
+    usize::from(f.max_isn).min(bytes / records::slot_length(f))
 }
 
 // Whether the ISN has a slot, and its slot lies within so many bytes of the file's part.
 fn slot_fits(f: File, bytes: usize, isn: u16) -> bool
     ensures { result ≡ within 1 (slot_count f bytes) isn }
 {
-    if isn == 0 {
-        return false;
-    }
-    isn as usize <= slot_count(f, bytes)
+    isn != 0 && usize::from(isn) <= slot_count(f, bytes)
 }
 
+#[tactic(auto, using(crate::specs::Slots::slot_inside), unfolding(crate::specs::Store::has_record, crate::specs::Store::slot_fits))]
 pub fn has_record(f: File, part: &[u8], isn: u16) -> bool
     ensures { result ≡ has_record f part.now isn }
 {
-    if !slot_fits(f, part.len(), isn) {
-        return false;
-    }
-    let first = records::slot_offset(f, isn);
-    part[first] == 1
+    slot_fits(f, part.len(), isn) && part[records::slot_offset(f, isn)] == 1
 }
 
 // The record of an ISN, as a part of what was lent; no bytes where there is none.
+#[tactic(auto, using(crate::proofs::Laws::record_inside, crate::proofs::Laws::shown_record, crate::proofs::Laws::shown_none, lists::specs::Parts::part_take))]
 pub fn record_part(f: File, part: &[u8], isn: u16) -> &[u8]
     ensures { result.now ≡ shown f part.now isn }
 {
@@ -51,22 +41,22 @@ pub fn record_part(f: File, part: &[u8], isn: u16) -> &[u8]
         return &part[..0];
     }
     let start = records::slot_offset(f, isn) + 1;
-    let end = start + records::record_length(f);
-    &part[start..end]
+    &part[start..start + records::record_length(f)]
 }
 
 // Fills the slot that begins at `at`: 1, and then the bytes.
+#[tactic(auto, using(lists::specs::Pieces::patch_set))]
 fn fill(part: &mut [u8], at: usize, bytes: &[u8])
     requires { at + 1 + length bytes.now ≤ length part.old }
     ensures { part.new ≡ patch at (length bytes.now + 1) part.old (1 ∷ bytes.now) }
 {
     part[at] = 1;
     let start = at + 1;
-    let end = start + bytes.len();
-    slices::copy(bytes, &mut part[start..end]);
+    part[start..start + bytes.len()].copy_from_slice(bytes);
 }
 
 // Puts a record at an ISN. A record of another length than the file's is not put.
+#[tactic(auto, using(crate::specs::Slots::slot_inside), unfolding(crate::specs::Store::put_record, crate::specs::Store::slot_fits))]
 pub fn put_record(f: File, part: &mut [u8], isn: u16, bytes: &[u8])
     ensures { part.new ≡ put_record f part.old isn bytes.now }
 {
@@ -81,32 +71,30 @@ pub fn put_record(f: File, part: &mut [u8], isn: u16, bytes: &[u8])
 }
 
 // Makes an ISN empty; the bytes of its record stay.
+#[tactic(auto, using(crate::specs::Slots::slot_inside), unfolding(crate::specs::Store::empty, crate::specs::Store::slot_fits))]
 pub fn empty(f: File, part: &mut [u8], isn: u16)
     ensures { part.new ≡ empty f part.old isn }
 {
     if !slot_fits(f, part.len(), isn) {
         return;
     }
-    let first = records::slot_offset(f, isn);
-    part[first] = 0;
+    part[records::slot_offset(f, isn)] = 0;
 }
 
+#[tactic(auto, using(lists::specs::Numbers::from_to_more, lists::specs::Numbers::from_to_none))]
 fn clear(part: &mut [u8], size: usize, last: usize)
     requires le_size { 1 ≤ size }
     requires last_bound { last < 65536 }
     requires size_in_bounds { last * size ≤ length part.old }
     ensures { part.new ≡ cleared size (from_to 1 last) part.old }
 {
-    let mut at = 0;
-    let mut isn = 1;
-    while isn <= last {
-        part[at] = 0;
-        at += size;
-        isn += 1;
+    for isn in 1..=last {
+        part[(isn - 1) * size] = 0;
     }
 }
 
 // Makes every ISN of the file empty.
+#[tactic(auto, using(crate::specs::Slots::count_room), unfolding(crate::specs::Store::fresh))]
 pub fn fresh(f: File, part: &mut [u8])
     ensures { part.new ≡ fresh f part.old }
 {

@@ -14,32 +14,22 @@ fn files_valid(d: Definition) -> bool
     ensures { result ≡ sound file_valid numbered_alike (files_of d) }
 {
     let n = definition::file_count(d);
-    let mut numbers = [0u16; MAX_FILES];
-    let mut i = 0;
-    while i < n {
-        let f = d.files[i];
-        if !file_validity::file_valid(f) {
+    let mut numbers = [0u8; MAX_FILES];
+    for (i, file) in d.files[..n].iter().enumerate() {
+        if !file_validity::file_valid(*file) {
             return false;
         }
-        let number = f.number as u16;
-        if membership::among(&numbers[..i], number) {
+        if numbers[..i].contains(&file.number) {
             return false;
         }
-        numbers[i] = number;
-        i += 1;
+        numbers[i] = file.number;
     }
     true
 }
 
+#[tactic(auto, unfolding(crate::specs::Validity::valid))]
 pub fn valid(d: Definition) -> bool
     ensures { result ≡ valid d }
 {
-    let n = d.count as usize;
-    if n < 1 {
-        return false;
-    }
-    if MAX_FILES < n {
-        return false;
-    }
-    files_valid(d)
+    (1..=MAX_FILES).contains(&usize::from(d.count)) && files_valid(d)
 }

@@ -25,50 +25,36 @@ fn negative_sign(half: u8) -> bool
 fn any_not_zero(bytes: &[u8]) -> bool
     ensures { result ≡ any not_zero (halves bytes.now) }
 {
-    let mut i = 0;
-    while i < bytes.len() {
-        if bytes[i] != 0 {
-            return true;
-        }
-        i += 1;
-    }
-    false
+    bytes.iter().any(|byte| *byte != 0)
 }
 
 // The sign half byte with which packed bytes are stored.
+#[tactic(auto, using(crate::specs::Laws::any_digits), unfolding(crate::specs::Values::below_zero))]
 fn stored_sign(value: &[u8]) -> u8
     ensures { result ≡ stored_sign value.now }
 {
-    let n = value.len();
-    if n == 0 {
+    let Some((last, front)) = value.split_last() else {
         return POSITIVE;
+    };
+    if negative_sign(*last % 16) && (*last / 16 != 0 || any_not_zero(front)) {
+        NEGATIVE
+    } else {
+        POSITIVE
     }
-    let last = value[n - 1];
-    if !negative_sign(last % 16) {
-        return POSITIVE;
-    }
-    if last / 16 != 0 {
-        return NEGATIVE;
-    }
-    if any_not_zero(&value[..n - 1]) {
-        return NEGATIVE;
-    }
-    POSITIVE
 }
 
+#[tactic(auto, using(crate::specs::Laws::stored_sign_below), unfolding(crate::specs::Values::stored))]
 fn put_sign(value: &mut [u8])
     ensures { value.new ≡ stored Packed value.old }
 {
-    let n = value.len();
-    if n == 0 {
-        return;
-    }
     let sign = stored_sign(value);
-    let last = value[n - 1];
-    value[n - 1] = last / 16 * 16 + sign;
+    if let Some(last) = value.last_mut() {
+        *last = *last / 16 * 16 + sign;
+    }
 }
 
 // Puts a value into stored form where it lies.
+#[tactic(auto, unfolding(crate::specs::Values::stored))]
 fn put_form(format: Format, value: &mut [u8])
     ensures { value.new ≡ stored format value.old }
 {
@@ -87,18 +73,8 @@ pub fn put_stored<'a, 'b>(format: Format, value: &'a [u8], to: &'b mut [u8])
     if value.len() != to.len() {
         return;
     }
-    slices::copy(value, to);
+    to.copy_from_slice(value);
     put_form(format, to);
-}
-
-fn fill(to: &mut [u8], byte: u8)
-    ensures { to.new ≡ replicate (length to.old) byte }
-{
-    let mut i = 0;
-    while i < to.len() {
-        to[i] = byte;
-        i += 1;
-    }
 }
 
 fn null_byte(format: Format) -> u8
@@ -113,10 +89,10 @@ fn null_byte(format: Format) -> u8
 }
 
 // Writes the null value of the format.
+#[tactic(auto, using(crate::specs::Laws::null_form))]
 pub fn put_null(format: Format, to: &mut [u8])
     ensures { to.new ≡ null_value format (length to.old) }
 {
-    let byte = null_byte(format);
-    fill(to, byte);
+    to.fill(null_byte(format));
     put_form(format, to);
 }

@@ -24,4 +24,5 @@ returns-then-n-i-eq-ELEMENT c = sym (c.loop-i.invariant.2 ∙ form_last c.args.f
 pub returns-else-n-i-eq-ELEMENT : goal.returns-else-n-i-eq-ELEMENT
 returns-else-n-i-eq-ELEMENT c =
     let few : length c.args.format.now - c.loop-i.i < 3 = omega arith in
-    sym (c.loop-i.invariant.2 ∙ form_short c.args.format.now c.loop-i.i few)
+    let no = ne_eqb (length c.args.format.now - c.loop-i.i) 3 (omega arith) in
+    no ∙ sym (c.loop-i.invariant.2 ∙ form_short c.args.format.now c.loop-i.i few)

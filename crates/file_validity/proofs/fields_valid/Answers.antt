@@ -1,16 +1,8 @@
 -- `fields_valid` meets its contract. The loop's invariant: the fields passed are sound, their names are kept as numbers, and their lengths are
 -- added up.
 -- Assumes nothing.
-use Prim.Native.Nat.{ℕ, ◌+◌, ◌≤◌, ◌<◌}
-use mathlib.Core.Path.{◌≡◌, refl, sym, ap, ◌∙◌}
-use mathlib.Core.Bool.{true}
-use native.Mathlib.Omega.{arith}
-use native.Mathlib.Numerals.{add-one}
-use borrow.Author.Rules.{rules}
-use lib.Dec.{eqb}
-use lib.ListN.{length, take, set, length-set, length-take}
-use lib.Seq.{length-take-le, take_all}
-use Rattle.lists.specs.Folds.{Each, each_at, each_take, sound}
+use Rattle.std.proofs.Common.{ℕ, ◌+◌, ◌≤◌, ◌<◌, ◌≡◌, sym, ap, ◌∙◌, true, arith, add-one, rules, eqb, length, take, set, length-set, length-take, get_or, get_or-take, take_all}
+use Rattle.lists.specs.Folds.{Each, any, each_at, each_take, sound}
 use Rattle.lists.specs.Every.{each_with}
 use Rattle.lists.specs.Rows.{row_next}
 use Rattle.definition.specs.Table.{no_field, field_at, field_count, fields_of, named_alike}
@@ -20,7 +12,7 @@ use Rattle.records.specs.Records.{field_length, record_length}
 use Rattle.records.specs.Laws.{record_length_is}
 use Rattle.records.specs.Bounds.{field_length_most}
 use Rattle.file_validity.specs.FileValidity.{field_valid}
-use Rattle.file_validity.specs.Keys.{same_number, sound_so_far, unsound_here, alike_here, alike_by_key, kept_more}
+use Rattle.file_validity.specs.Keys.{same_number, sound_so_far, alike_here, alike_by_key, kept_more}
 use Rattle.definition.proofs.Known.{file_known}
 use Rattle.file_validity.proofs.fields_valid.Invariants.{number}
 use Rattle.file_validity.proofs.fields_valid.Goals as goal
@@ -35,61 +27,51 @@ agree f s i h =
     (take i (fields_of f))
     (each_take FieldShape i (fields_of f) (each_take FieldShape (field_count f) f.fields s.each_field))
 
-pub loop-i-init : goal.loop-i-init
-loop-i-init c = (omega arith, refl, omega arith, refl, refl, refl)
+-- the field that the loop is at
+here : (f : File) (n i : ℕ) → i < length (take n f.fields) → get_or (take n f.fields) i no_field ≡ field_at f i
+here f n i h = get_or-take n f.fields i no_field (omega (arith, length-take n f.fields))
 
-pub returns-then-not-field_valid : goal.returns-then-not-field_valid
-returns-then-not-field_valid c =
+pub returns-then-contains : goal.returns-then-contains
+returns-then-contains c =
     let f = c.args.f in
     let s : FileShape f = file_known _ _ c.well_formed.0 in
-    let more : c.loop-i.i < field_count f = omega arith in
+    let more : c.loop-i.i < field_count f = omega (arith, length-take (field_count f) f.fields) in
     let fits : field_count f ≤ length f.fields = omega (arith, s.places) in
-    let no = sym c.field_valid.ensures ∙ c.if-not-field_valid.true in
-    rw (unsound_here field_valid named_alike (field_count f) f.fields no_field fits c.loop-i.i more no)
-
-pub slice_bounds-among-end : goal.slice_bounds-among-end
-slice_bounds-among-end c = sym (length-take-le c.loop-i.i c.loop-i.names (omega arith))
-
-pub returns-then-among : goal.returns-then-among
-returns-then-among c =
-    let f = c.args.f in
-    let s : FileShape f = file_known _ _ c.well_formed.0 in
-    let more : c.loop-i.i < field_count f = omega arith in
-    let fits : field_count f ≤ length f.fields = omega (arith, s.places) in
-    let name = c.name_number-name.ensures in
-    let found = rw name at (sym c.among.ensures ∙ c.if-among.true) in
-    let key = alike_by_key field_valid named_alike (field_count f) f.fields no_field fits c.loop-i.i more number c.loop-i.names c.loop-i.invariant.4 (agree f s c.loop-i.i more) in
+    let name = c.name_number-name.ensures ∙ ap number (here f c.field_count-n.result c.loop-i.i c.loop-i-test.true) in
+    let asked : c.contains.result ≡ any (eqb c.name_number-name.result) (take c.loop-i.i c.loop-i.names) = search rules in
+    let found = rw name at (sym asked ∙ c.if-contains.true) in
+    let key = alike_by_key field_valid named_alike (field_count f) f.fields no_field fits c.loop-i.i more number c.loop-i.names c.loop-i.invariant.3 (agree f s c.loop-i.i more) in
     rw (alike_here field_valid named_alike (field_count f) f.fields no_field fits c.loop-i.i more (sym key ∙ found))
 
-pub overflow_cast-length : goal.overflow_cast-length
-overflow_cast-length c = let m = field_length_most c.args.f (file_known _ _ c.well_formed.0) c.loop-i.i in search rules
-
 pub overflow_add-length : goal.overflow_add-length
-overflow_add-length c = omega (arith, field_length_most c.args.f (file_known _ _ c.well_formed.0) c.loop-i.i)
+overflow_add-length c =
+    let f = c.args.f in
+    omega (arith, field_length_most f (file_known _ _ c.well_formed.0) c.loop-i.i, ap field_length (here f c.field_count-n.result c.loop-i.i c.loop-i-test.true))
 
 pub loop-i-preserved : goal.loop-i-preserved
 loop-i-preserved c =
     let f = c.args.f in
     let s : FileShape f = file_known _ _ c.well_formed.0 in
-    let more : c.loop-i.i < field_count f = omega arith in
+    let more : c.loop-i.i < field_count f = omega (arith, length-take (field_count f) f.fields) in
     let fits : field_count f ≤ length f.fields = omega (arith, s.places) in
-    let name = c.name_number-name.ensures in
-    let yes = sym c.field_valid.ensures ∙ c.if-not-field_valid.false in
-    let none = rw name at (sym c.among.ensures ∙ c.if-among.false) in
-    let key = alike_by_key field_valid named_alike (field_count f) f.fields no_field fits c.loop-i.i more number c.loop-i.names c.loop-i.invariant.4 (agree f s c.loop-i.i more) in
+    let at = here f c.field_count-n.result c.loop-i.i c.loop-i-test.true in
+    let name = c.name_number-name.ensures ∙ ap number at in
+    let yes = sym (c.field_valid.ensures ∙ ap field_valid at) ∙ c.if-not-field_valid.false in
+    let asked : c.contains.result ≡ any (eqb c.name_number-name.result) (take c.loop-i.i c.loop-i.names) = search rules in
+    let none = rw name at (sym asked ∙ c.if-contains.false) in
+    let key = alike_by_key field_valid named_alike (field_count f) f.fields no_field fits c.loop-i.i more number c.loop-i.names c.loop-i.invariant.3 (agree f s c.loop-i.i more) in
     let sum = row_next field_length (field_count f) f.fields no_field fits c.loop-i.i more in (
-      omega arith,
-      length-set c.loop-i.names c.loop-i.i _ ∙ c.loop-i.invariant.1,
-      omega (arith, field_length_most f s c.loop-i.i),
-      rw (add-one c.loop-i.i) (omega (arith, sum)),
-      ap (λ k. take (c.loop-i.i + 1) (set c.loop-i.names c.loop-i.i k)) name ∙ kept_more field_valid named_alike (field_count f) f.fields no_field fits c.loop-i.i more number c.loop-i.names c.loop-i.invariant.4 (omega arith),
-      sound_so_far field_valid named_alike (field_count f) f.fields no_field fits c.loop-i.i more c.loop-i.invariant.5 yes (sym key ∙ none),
+      length-set c.loop-i.names c.loop-i.i _ ∙ c.loop-i.invariant.0,
+      omega (arith, field_length_most f s c.loop-i.i, ap field_length at),
+      rw (add-one c.loop-i.i) (omega (arith, sum, ap field_length at)),
+      ap (λ k. take (c.loop-i.i + 1) (set c.loop-i.names c.loop-i.i k)) name ∙ kept_more field_valid named_alike (field_count f) f.fields no_field fits c.loop-i.i more number c.loop-i.names c.loop-i.invariant.3 (omega arith),
+      sound_so_far field_valid named_alike (field_count f) f.fields no_field fits c.loop-i.i more c.loop-i.invariant.4 yes (sym key ∙ none),
     )
 
 pub returns : goal.returns
 returns c =
     let f = c.args.f in
-    let all : take c.loop-i.i (fields_of f) ≡ fields_of f = take_all c.loop-i.i (fields_of f) (omega (arith, length-take (field_count f) f.fields)) in
-    let whole : c.loop-i.length ≡ record_length f = rw all at c.loop-i.invariant.3 ∙ sym (record_length_is f) in
-    let yes : sound field_valid named_alike (fields_of f) ≡ true = rw all at c.loop-i.invariant.5 in
+    let all : take c.loop-i.i (fields_of f) ≡ fields_of f = take_all c.loop-i.i (fields_of f) (omega (arith, length-take (field_count f) f.fields, length-take c.field_count-n.result f.fields)) in
+    let whole : c.loop-i.length ≡ record_length f = rw all at c.loop-i.invariant.2 ∙ sym (record_length_is f) in
+    let yes : sound field_valid named_alike (fields_of f) ≡ true = rw all at c.loop-i.invariant.4 in
     rw (whole, yes)

@@ -1,7 +1,7 @@
 -- `fields_valid` meets its contract. The loop's invariant: the fields passed are sound, their names are kept as numbers, and their lengths are
 -- added up.
 -- Assumes nothing.
-use Prim.Native.Nat.{ℕ, ◌-◌, ◌*◌, ◌≤◌}
+use Prim.Native.Nat.{ℕ, ◌*◌, ◌≤◌}
 use mathlib.Core.Path.{◌≡◌}
 use mathlib.Core.Bool.{true}
 use mathlib.Core.List.{map}
@@ -18,7 +18,4 @@ abbrev pub number : Field → ℕ
 number g = name_number g.name
 
 abbrev pub invariant-loop-i : goal.invariant-loop-i
-invariant-loop-i l = (l.i ≤ l.n) × (length l.names ≡ 16) × (l.length ≤ 255 * l.i) × (l.length ≡ total field_length (take l.i (fields_of l.f))) × (take l.i l.names ≡ map number (take l.i (fields_of l.f))) × (sound field_valid named_alike (take l.i (fields_of l.f)) ≡ true)
-
-abbrev pub decreases-loop-i : goal.decreases-loop-i
-decreases-loop-i l = l.n - l.i
+invariant-loop-i l = (length l.names ≡ 16) × (l.length ≤ 255 * l.i) × (l.length ≡ total field_length (take l.i (fields_of l.fn.f))) × (take l.i l.names ≡ map number (take l.i (fields_of l.fn.f))) × (sound field_valid named_alike (take l.i (fields_of l.fn.f)) ≡ true)

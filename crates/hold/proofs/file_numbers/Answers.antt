@@ -15,14 +15,14 @@ many : (c : Start) → length (map file_number c.args.d.files) ≡ 16
 many c = length-map c.args.d.files file_number ∙ (definition_known c.args.d _ c.well_formed.0).places
 
 pub loop-i-init : goal.loop-i-init
-loop-i-init c = (omega arith, refl)
+loop-i-init c = refl
 
 pub loop-i-preserved : goal.loop-i-preserved
 loop-i-preserved c =
     let i = c.loop-i.i in
     let new = map file_number c.args.d.files in
     let next = get_or-map file_number c.args.d.files i beyond in
-    (omega arith, rw (c.loop-i.invariant.1, ← next) (write_more new (replicate 16 0) i 0 (omega (arith, many (goal.at.loop-i-preserved c).Start)) (omega arith)))
+    rw (c.loop-i.invariant, ← next) (write_more new (replicate 16 0) i 0 (omega (arith, many (goal.at.loop-i-preserved c).Start)) (omega (arith, many (goal.at.loop-i-preserved c).Start, length-map c.args.d.files file_number)))
 
 pub returns : goal.returns
-returns c = c.loop-i.invariant.1 ∙ write_all _ (replicate 16 0) c.loop-i.i (omega (arith, many (goal.at.returns c).Start)) (omega arith)
+returns c = c.loop-i.invariant ∙ write_all _ (replicate 16 0) c.loop-i.i (omega (arith, many (goal.at.returns c).Start, length-map c.args.d.files file_number)) (omega (arith, many (goal.at.returns c).Start, length-map c.args.d.files file_number))

@@ -1,6 +1,5 @@
 -- `file_numbers` meets its contract. The loop's invariant: the front of the table is written.
 -- Assumes nothing.
-use Prim.Native.Nat.{◌-◌, ◌≤◌}
 use mathlib.Core.Path.{◌≡◌}
 use mathlib.Core.List.{◌++◌, map}
 use lib.ListN.{take, drop, replicate}
@@ -8,7 +7,4 @@ use Rattle.hold.specs.Tables.{file_number}
 use Rattle.hold.proofs.file_numbers.Given as goal
 
 abbrev pub invariant-loop-i : goal.invariant-loop-i
-invariant-loop-i l = (l.i ≤ 16) × (l.numbers ≡ take l.i (map file_number l.d.files) ++ drop l.i (replicate 16 0))
-
-abbrev pub decreases-loop-i : goal.decreases-loop-i
-decreases-loop-i l = 16 - l.i
+invariant-loop-i l = l.numbers ≡ take l.i (map file_number l.fn.d.files) ++ drop l.i (replicate 16 0)

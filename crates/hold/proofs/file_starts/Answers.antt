@@ -32,7 +32,7 @@ size c =
 
 pub loop-i-init : goal.loop-i-init
 unfolding file_offset
-loop-i-init c = (omega arith, refl, omega arith, refl, λ k h. let z : k ≡ 0 = omega arith in rw z)
+loop-i-init c = (refl, omega arith, refl, λ k h. let z : k ≡ 0 = omega arith in rw z)
 
 pub overflow_add-sum : goal.overflow_add-sum
 overflow_add-sum c = omega (arith, size (goal.at.overflow_add-sum c).After-file_size-sum)
@@ -40,12 +40,11 @@ overflow_add-sum c = omega (arith, size (goal.at.overflow_add-sum c).After-file_
 pub loop-i-preserved : goal.loop-i-preserved
 loop-i-preserved c =
     let next = file_follows c.args.d (definition_known _ _ c.well_formed.0) c.loop-i.i (omega arith) in (
-      omega arith,
-      length-set c.loop-i.starts (c.loop-i.i + 1) (c.loop-i.sum + c.file_size-sum.result) ∙ c.loop-i.invariant.1,
+      length-set c.loop-i.starts (c.loop-i.i + 1) (c.loop-i.sum + c.file_size-sum.result) ∙ c.loop-i.invariant.0,
       omega (arith, size (goal.at.loop-i-preserved c).After-file_size-sum),
       omega (arith, next, c.file_size-sum.ensures),
-      written c.loop-i.starts (file_offset c.args.d) c.loop-i.i (c.loop-i.sum + c.file_size-sum.result) (omega arith) (omega (arith, next, c.file_size-sum.ensures)) c.loop-i.invariant.4,
+      written c.loop-i.starts (file_offset c.args.d) c.loop-i.i (c.loop-i.sum + c.file_size-sum.result) (omega arith) (omega (arith, next, c.file_size-sum.ensures)) c.loop-i.invariant.3,
     )
 
 pub returns : goal.returns
-returns c = λ k h. c.loop-i.invariant.4 k (omega arith)
+returns c = λ k h. c.loop-i.invariant.3 k (omega arith)

@@ -7,17 +7,17 @@ use lib.ListN.{drop_of_length-le}
 use Rattle.lists.specs.Rest.{drop_more}
 use Rattle.hold.proofs.place.Goals as goal
 
-pub returns-then-numbers-i : goal.returns-then-numbers-i
-returns-then-numbers-i c =
+pub returns-then-other-number : goal.returns-then-other-number
+returns-then-other-number c =
     let a = c.args in
-    sym (c.loop-i.invariant.1 ∙ rw (drop_more a.numbers.now c.loop-i.i 0 (omega arith), eq-eqb _ _ c.if-numbers-i.true))
+    sym (c.loop-i.invariant ∙ rw (drop_more a.numbers.now c.loop-i.i 0 (omega arith), eq-eqb _ _ c.if-other-number.true))
 
 pub loop-i-preserved : goal.loop-i-preserved
 loop-i-preserved c =
     let a = c.args in
-    (omega arith, c.loop-i.invariant.1 ∙ rw (drop_more a.numbers.now c.loop-i.i 0 (omega arith), ne_eqb _ _ c.if-numbers-i.false))
+    c.loop-i.invariant ∙ rw (drop_more a.numbers.now c.loop-i.i 0 (omega arith), ne_eqb _ _ c.if-other-number.false)
 
 pub returns : goal.returns
 returns c =
     let a = c.args in
-    sym (c.loop-i.invariant.1 ∙ rw (drop_of_length-le a.numbers.now c.loop-i-test.false))
+    sym (c.loop-i.invariant ∙ rw (drop_of_length-le a.numbers.now c.loop-i-test.false))

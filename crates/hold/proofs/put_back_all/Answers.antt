@@ -69,12 +69,12 @@ ends c =
     let d = c.args.d in
     let at = c.in-Some.k in
     let next = c.requires.by_index (at + 1) (omega (arith, inside c)) ∙ file_follows d (shape c) at (inside c) in
-    (c.requires.by_index at (omega (arith, inside c)), next, omega (arith, next, file_within d (shape c) at (inside c), c.requires.d_in_bounds, c.loop-i.invariant.1))
+    (c.requires.by_index at (omega (arith, inside c)), next, omega (arith, next, file_within d (shape c) at (inside c), c.requires.d_in_bounds, c.loop-i.invariant.0))
 
 pub loop-i-init : goal.loop-i-init
 loop-i-init c =
     let z : 0 * c.args.width ≡ 0 = zero-mul c.args.width in
-    (omega arith, refl, rw z)
+    (refl, rw z)
 
 pub overflow_mul-at : goal.overflow_mul-at
 overflow_mul-at c = omega (arith, room (goal.at.overflow_mul-at c).In-loop-i)
@@ -94,11 +94,11 @@ bounds-starts-k c = omega (arith, inside (goal.at.bounds-starts-k c).In-Some, c.
 pub overflow_add-end : goal.overflow_add-end
 overflow_add-end c = omega (arith, inside (goal.at.overflow_add-end c).In-Some)
 
-pub offset_bounds-starts-k-in-Some : goal.offset_bounds-starts-k-in-Some
-offset_bounds-starts-k-in-Some c = omega (arith, inside (goal.at.offset_bounds-starts-k-in-Some c).In-Some)
+pub offset_bounds-starts-k-in-loop-i : goal.offset_bounds-starts-k-in-loop-i
+offset_bounds-starts-k-in-loop-i c = omega (arith, inside (goal.at.offset_bounds-starts-k-in-loop-i c).In-Some)
 
-pub bounds-starts-k-in-Some : goal.bounds-starts-k-in-Some
-bounds-starts-k-in-Some c = omega (arith, inside (goal.at.bounds-starts-k-in-Some c).In-Some, c.requires.starts_len)
+pub bounds-starts-k-in-loop-i : goal.bounds-starts-k-in-loop-i
+bounds-starts-k-in-loop-i c = omega (arith, inside (goal.at.bounds-starts-k-in-loop-i c).In-Some, c.requires.starts_len)
 
 pub overflow_add-at : goal.overflow_add-at
 overflow_add-at c = omega (arith, room (goal.at.overflow_add-at c).In-loop-i)
@@ -109,27 +109,27 @@ slice_bounds-put_back-end c = omega (arith, room (goal.at.slice_bounds-put_back-
 pub put_back-requires : goal.put_back-requires
 put_back-requires c = record { start_le_end = omega (arith, ends (goal.at.put_back-requires c).In-Some); end_in_bounds = omega (arith, ends (goal.at.put_back-requires c).In-Some) }
 
-pub loop-i-preserved-in-Some : goal.loop-i-preserved-in-Some
-loop-i-preserved-in-Some c =
+pub loop-i-preserved : goal.loop-i-preserved
+loop-i-preserved c =
     let a = c.args in
     let at = c.in-Some.k in
     let e = c.unpack-e.result in
     let image = take a.width (drop (c.loop-i.i * a.width) a.images.now) in
-    let same = turn a.d a.width a.user c.loop-i.i a.queue.now a.count a.images.now c.loop-i.store e (Some at) (omega (arith, c.requires.d_in_bounds)) (omega arith) c.unpack-e.ensures (sym c.in-Some.is ∙ sought (goal.at.loop-i-preserved-in-Some c).After-undone_at-found) in
-    let size : get_or a.starts.now (at + 1) 0 - get_or a.starts.now at 0 ≡ file_size (file_at a.d at) = omega (arith, ends (goal.at.loop-i-preserved-in-Some c).In-Some) in
-    let now : c.put_back.new.store ≡ in_part a.d at e image c.loop-i.store = rw (part_take (c.loop-i.i * a.width) a.width a.images.now, size, (ends (goal.at.loop-i-preserved-in-Some c).In-Some).0) at c.put_back.ensures in
-    (omega arith, omega (arith, c.put_back.auto.store, c.loop-i.invariant.1), rw (now, ← (put_back_part a.d at e image c.loop-i.store)) (same ∙ c.loop-i.invariant.2))
+    let same = turn a.d a.width a.user c.loop-i.i a.queue.now a.count a.images.now c.loop-i.store e (Some at) (omega (arith, c.requires.d_in_bounds)) (omega arith) c.unpack-e.ensures (sym c.in-Some.is ∙ sought (goal.at.loop-i-preserved c).After-undone_at-found) in
+    let size : get_or a.starts.now (at + 1) 0 - get_or a.starts.now at 0 ≡ file_size (file_at a.d at) = omega (arith, ends (goal.at.loop-i-preserved c).In-Some) in
+    let now : c.put_back.new.store ≡ in_part a.d at e image c.loop-i.store = rw (part_take (c.loop-i.i * a.width) a.width a.images.now, size, (ends (goal.at.loop-i-preserved c).In-Some).0) at c.put_back.ensures in
+    (omega (arith, c.put_back.auto.store, c.loop-i.invariant.0), rw (now, ← (put_back_part a.d at e image c.loop-i.store)) (same ∙ c.loop-i.invariant.1))
 
-pub loop-i-preserved : goal.loop-i-preserved
-loop-i-preserved c =
+pub loop-i-preserved-in_default : goal.loop-i-preserved-in_default
+loop-i-preserved-in_default c =
     let a = c.args in
-    let same = turn a.d a.width a.user c.loop-i.i a.queue.now a.count a.images.now c.loop-i.store c.unpack-e.result None (omega (arith, c.requires.d_in_bounds)) (omega arith) c.unpack-e.ensures (sym c.in_default.is ∙ sought (goal.at.loop-i-preserved c).After-undone_at-found) in
-    (omega arith, c.loop-i.invariant.1, same ∙ c.loop-i.invariant.2)
+    let same = turn a.d a.width a.user c.loop-i.i a.queue.now a.count a.images.now c.loop-i.store c.unpack-e.result None (omega (arith, c.requires.d_in_bounds)) (omega arith) c.unpack-e.ensures (sym c.in_default.is ∙ sought (goal.at.loop-i-preserved-in_default c).After-undone_at-found) in
+    (c.loop-i.invariant.0, same ∙ c.loop-i.invariant.1)
 
 pub shape_of-store : goal.shape_of-store
-shape_of-store c = c.loop-i.invariant.1
+shape_of-store c = c.loop-i.invariant.0
 
 pub returns : goal.returns
 returns c =
     let a = c.args in
-    rw (no_entry_left a.queue.now a.count c.loop-i.i (omega arith)) at c.loop-i.invariant.2
+    rw (no_entry_left a.queue.now a.count c.loop-i.i (omega arith)) at c.loop-i.invariant.1

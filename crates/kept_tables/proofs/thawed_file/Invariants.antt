@@ -1,14 +1,10 @@
 -- `thawed_file` meets its contract. The loop's invariant: up to `i` the thawed fields stand, from `i` on the places are empty.
 -- Assumes nothing.
-use Prim.Native.Nat.{◌-◌, ◌≤◌}
 use mathlib.Core.Path.{◌≡◌}
 use lib.ListN.{length}
 use Rattle.definition.specs.Table.{no_file}
-use Rattle.kept_tables.specs.KeptTables.{kept_field_count, mapped, thawed_field}
+use Rattle.kept_tables.specs.KeptTables.{mapped, thawed_field}
 use Rattle.kept_tables.proofs.thawed_file.Given as goal
 
 abbrev pub invariant-loop-i : goal.invariant-loop-i
-invariant-loop-i l = (l.n ≡ kept_field_count l.k) × (l.i ≤ l.n) × (l.fields ≡ mapped thawed_field l.k.fields no_file.fields l.i) × (length l.fields ≡ 16)
-
-abbrev pub decreases-loop-i : goal.decreases-loop-i
-decreases-loop-i l = l.n - l.i
+invariant-loop-i l = (l.fields ≡ mapped thawed_field l.fn.k.fields no_file.fields l.i) × (length l.fields ≡ 16)

@@ -1,14 +1,10 @@
 -- `thawed_files` meets its contract. The loop's invariant: up to `i` the thawed files stand, from `i` on the places are empty.
 -- Assumes nothing.
-use Prim.Native.Nat.{◌-◌, ◌≤◌}
 use mathlib.Core.Path.{◌≡◌}
 use lib.ListN.{length}
 use Rattle.definition.specs.Table.{no_definition}
-use Rattle.kept_tables.specs.KeptTables.{kept_file_count, mapped, thawed_file}
+use Rattle.kept_tables.specs.KeptTables.{mapped, thawed_file}
 use Rattle.kept_tables.proofs.thawed_files.Given as goal
 
 abbrev pub invariant-loop-i : goal.invariant-loop-i
-invariant-loop-i l = (l.n ≡ kept_file_count l.count) × (l.i ≤ l.n) × (l.files ≡ mapped thawed_file l.kept no_definition.files l.i) × (length l.files ≡ 16)
-
-abbrev pub decreases-loop-i : goal.decreases-loop-i
-decreases-loop-i l = l.n - l.i
+invariant-loop-i l = (l.files ≡ mapped thawed_file l.fn.kept no_definition.files l.i) × (length l.files ≡ 16)

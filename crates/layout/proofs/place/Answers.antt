@@ -1,20 +1,20 @@
 -- `place` meets its contract. The loop's invariant: what is sought in the whole table is sought from here on.
 -- Assumes nothing.
-use mathlib.Core.Path.{sym, ◌∙◌}
-use native.Mathlib.Omega.{arith}
-use borrow.Author.Tests.{eq-eqb, ne_eqb}
-use Rattle.definition.specs.Shape.{file_next, no_file_left}
+use Rattle.std.proofs.Common.{sym, ◌∙◌, take, drop_of_length-le, eq-eqb, ne_eqb}
+use Rattle.lists.specs.Rest.{drop_more}
+use Rattle.definition.specs.Table.{beyond}
 use Rattle.layout.specs.Layout.{place}
-use Rattle.definition.proofs.Known.{definition_known}
 use Rattle.layout.proofs.place.Goals as goal
 
-pub returns-then-other-number : goal.returns-then-other-number
+pub returns-then-file-number : goal.returns-then-file-number
 unfolding place
-returns-then-other-number c = sym (c.loop-i.invariant.1 ∙ rw (file_next c.args.d (definition_known _ _ c.well_formed.0) c.loop-i.i (omega arith), eq-eqb _ _ c.if-other-number.true))
+returns-then-file-number c =
+    let files = c.args.d.files in
+    rw (← c.file_count-n.ensures) (sym (c.loop-i.invariant ∙ rw (drop_more (take c.file_count-n.result files) c.loop-i.i beyond c.loop-i-test.true, eq-eqb _ _ c.if-file-number.true)))
 
 pub loop-i-preserved : goal.loop-i-preserved
-loop-i-preserved c = (omega arith, c.loop-i.invariant.1 ∙ rw (file_next c.args.d (definition_known _ _ c.well_formed.0) c.loop-i.i (omega arith), ne_eqb _ _ c.if-other-number.false))
+loop-i-preserved c = c.loop-i.invariant ∙ rw (drop_more (take c.file_count-n.result c.args.d.files) c.loop-i.i beyond c.loop-i-test.true, ne_eqb _ _ c.if-file-number.false)
 
 pub returns : goal.returns
 unfolding place
-returns c = sym (c.loop-i.invariant.1 ∙ rw (no_file_left c.args.d c.loop-i.i (omega arith)))
+returns c = rw (← c.file_count-n.ensures) (sym (c.loop-i.invariant ∙ rw (drop_of_length-le (take c.file_count-n.result c.args.d.files) c.loop-i-test.false)))

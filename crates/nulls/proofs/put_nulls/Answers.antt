@@ -23,7 +23,7 @@ shape c = file_known _ _ c.well_formed.0
 
 -- the field at k is in use, so it lies in the record
 in_use : (c : In-loop-k) → c.loop-k.k < field_count c.args.f
-in_use c = omega (arith, c.field_count-n.ensures, c.loop-k-test.true)
+in_use c = omega (arith, c.field_count-k-end.ensures, c.loop-k-test.true)
 
 room : (c : In-loop-k) → field_offset c.args.f c.loop-k.k + field_length (field_at c.args.f c.loop-k.k) ≤ length c.loop-k.content
 room c =
@@ -37,10 +37,7 @@ pub loop-k-init : goal.loop-k-init
 loop-k-init c = (refl, rw (field_offset_is _ 0))
 
 pub null_at-requires : goal.null_at-requires
-null_at-requires c = rw (c.field_offset.ensures, c.field_at-g.ensures) (room (goal.at.null_at-requires c).In-loop-k)
-
-pub overflow_add-k : goal.overflow_add-k
-overflow_add-k c = omega (arith, in_use (goal.at.overflow_add-k c).In-loop-k)
+null_at-requires c = rw (c.field_offset.ensures, c.from.ensures, c.field_at-g.ensures) (room (goal.at.null_at-requires c).In-loop-k)
 
 pub loop-k-preserved : goal.loop-k-preserved
 loop-k-preserved c =
@@ -50,7 +47,7 @@ loop-k-preserved c =
     let v = null_value g.format (field_length g) in
     let rest = nulls (drop (k + 1) (fields_of f)) in
     let next = field_next f (shape (goal.at.loop-k-preserved c).In-loop-k) k (in_use (goal.at.loop-k-preserved c).In-loop-k) in
-    let now : c.null_at.new.content ≡ sets c.loop-k.content (field_offset f k) v = rw (c.field_offset.ensures, c.field_at-g.ensures) at c.null_at.ensures in
+    let now : c.null_at.new.content ≡ sets c.loop-k.content (field_offset f k) v = rw (c.field_offset.ensures, c.from.ensures, c.field_at-g.ensures) at c.null_at.ensures in
     let turn : sets c.loop-k.content (field_offset f k) (nulls (drop k (fields_of f))) ≡ sets (sets c.loop-k.content (field_offset f k) v) (field_offset f k + field_length g) rest = rw (next, sets_append c.loop-k.content (field_offset f k) v rest, null_length g.format (field_length g)) refl in
     (omega (arith, c.null_at.auto.content, c.loop-k.invariant.0), rw (now, field_follows f (shape (goal.at.loop-k-preserved c).In-loop-k) k (in_use (goal.at.loop-k-preserved c).In-loop-k)) (sym turn ∙ c.loop-k.invariant.1))
 
@@ -62,5 +59,5 @@ unfolding null_record
 returns c =
     let f = c.args.f in
     let fits : record_length f ≤ length c.args.content.now = omega (arith, c.record_length.ensures, c.if-content-record_length.false) in
-    let none = no_field_left f c.loop-k.k (omega (arith, c.field_count-n.ensures, c.loop-k-test.false)) in
+    let none = no_field_left f c.loop-k.k (omega (arith, c.field_count-k-end.ensures, c.loop-k-test.false)) in
     rw (le-leb (record_length f) (length c.args.content.now) fits) (rw none at c.loop-k.invariant.1)

@@ -1,6 +1,5 @@
 -- `put_nulls` meets its contract. The loop's invariant: the nulls of the fields that are left, stored from here on, make the whole.
 -- Assumes nothing.
-use Prim.Native.Nat.{◌-◌}
 use mathlib.Core.Path.{◌≡◌}
 use lib.ListN.{length, drop}
 use lib.Seq.{sets}
@@ -11,6 +10,3 @@ use Rattle.nulls.proofs.put_nulls.Given as goal
 
 abbrev pub invariant-loop-k : goal.invariant-loop-k
 invariant-loop-k l = (length l.content ≡ length l.initial.content) × (sets l.content (field_offset l.f l.k) (nulls (drop l.k (fields_of l.f))) ≡ sets l.initial.content 0 (nulls (fields_of l.f)))
-
-abbrev pub decreases-loop-k : goal.decreases-loop-k
-decreases-loop-k l = l.n - l.k

@@ -12,14 +12,14 @@ use Rattle.reading.proofs.read.Goals as goal
 pub loop-at-init : goal.loop-at-init
 loop-at-init c = rw c.no_definition-d.ensures (start _)
 
-pub returns-then-d-ge-MAX_FILES : goal.returns-then-d-ge-MAX_FILES
-returns-then-d-ge-MAX_FILES c =
+pub returns-then-from-ge-MAX_FILES : goal.returns-then-from-ge-MAX_FILES
+returns-then-from-ge-MAX_FILES c =
     let h = c.loop-at-test.true in
     let i = sym (c.first_item.ensures ∙ ap item_of (part_to_end c.loop-at.at c.args.bytes.now)) ∙ c.in-Some.is ∙ ap Some c.in-File.is in
-    c.broken-then-d-ge-MAX_FILES.ensures ∙ file_full _ _ _ c.loop-at.invariant h _ _ i (le-ltb _ 16 c.if-d-ge-MAX_FILES.true)
+    c.broken-then-from-ge-MAX_FILES.ensures ∙ file_full _ _ _ c.loop-at.invariant h _ _ i (le-ltb c.loop-at.d.count 16 (omega arith))
 
 pub add_file-d-requires : goal.add_file-d-requires
-add_file-d-requires c = lt-ltb _ 16 c.if-d-ge-MAX_FILES.false
+add_file-d-requires c = lt-ltb c.loop-at.d.count 16 (omega arith)
 
 pub overflow_add-at : goal.overflow_add-at
 overflow_add-at c =
@@ -31,7 +31,7 @@ pub loop-at-preserved-in-File : goal.loop-at-preserved-in-File
 loop-at-preserved-in-File c =
     let h = c.loop-at-test.true in
     let i = sym (c.first_item.ensures ∙ ap item_of (part_to_end c.loop-at.at c.args.bytes.now)) ∙ c.in-Some.is ∙ ap Some c.in-File.is in
-    rw c.add_file-d.ensures (file_more _ _ _ c.loop-at.invariant h _ _ i (lt-ltb _ 16 c.if-d-ge-MAX_FILES.false))
+    rw c.add_file-d.ensures (file_more _ _ _ c.loop-at.invariant h _ _ i (lt-ltb c.loop-at.d.count 16 (omega arith)))
 
 pub returns-then-not-room_for_field : goal.returns-then-not-room_for_field
 returns-then-not-room_for_field c =

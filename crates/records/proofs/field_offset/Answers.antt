@@ -19,9 +19,6 @@ short : (c : In-loop-i) → field_length (field_at c.args.f c.loop-i.i) ≤ 255
 short c =
     field_length_most c.args.f (file_known _ _ c.well_formed.0) c.loop-i.i
 
--- LOOK cast_sum : tie.Need-overflow-cast-sum invariant_loop decreases_loop
--- LOOK cast_sum c = let m = short c.before in search rules
-
 pub overflow_add-sum : goal.overflow_add-sum
 overflow_add-sum c = omega (arith, short (goal.at.overflow_add-sum c).In-loop-i)
 
@@ -29,15 +26,15 @@ pub loop-i-preserved : goal.loop-i-preserved
 loop-i-preserved c =
     let f = c.args.f in
     let s : FileShape f = file_known _ _ c.well_formed.0 in
-    let n = c.least-n.result in
+    let n = c.min-n.result in
     elim c.if-i-n.branch [ then-i-n w ↦ omega (arith, ap (total field_length) (field_turn f s n c.loop-i.i w.if-i-n.true (omega arith)), short (goal.at.loop-i-preserved c).In-loop-i) | else-i-n w ↦ omega (arith, ap (total field_length) (rest_none n f.fields c.loop-i.i w.if-i-n.false), ap (total field_length) (rest_none n f.fields (c.loop-i.i + 1) (omega arith))) ]
 
 pub returns : goal.returns
 unfolding field_offset
 returns c =
     let a = c.args in
-    let n = c.least-n.result in
+    let n = c.min-n.result in
     let none = ap (total field_length) (rest_none n a.f.fields c.loop-i.i (omega arith)) in
     let whole : c.loop-i.sum ≡ total field_length (take n a.f.fields) = omega (arith, none) in
-    let count : n ≡ min a.k (field_count a.f) = rw (← c.field_count.ensures) c.least-n.ensures in
+    let count : n ≡ min a.k (field_count a.f) = rw (← c.field_count.ensures) c.min-n.ensures in
     whole ∙ rw (count, ← (take_min a.k (field_count a.f) a.f.fields))

@@ -1,5 +1,5 @@
 -- `move_entry` meets its contract: an image lies behind the place that it comes to. Assumes nothing.
-use Prim.Native.Nat.{◌+◌, ◌*◌, ◌≤◌}
+use Prim.Native.Nat.{◌*◌, ◌≤◌}
 use mathlib.Core.Path.{sym}
 use native.Mathlib.Omega.{arith}
 use native.Mathlib.Nat.{mul-le-mul_right}
@@ -14,10 +14,4 @@ pub overflow_mul-to : goal.overflow_mul-to
 overflow_mul-to c =
     let a = c.args in
     let e : a.to ≤ a.from = omega arith in
-    omega (arith, mul-le-mul_right a.width e)
-
-pub copy_down-requires : goal.copy_down-requires
-copy_down-requires c =
-    let a = c.args in
-    let e : a.to + 1 ≤ a.from = omega arith in
     omega (arith, mul-le-mul_right a.width e)

@@ -13,7 +13,7 @@ use mathlib.Core.List.{List}
 use native.Mathlib.Nat.{mul-le-mul_right}
 use lib.ListN.{length, drop, get_or, set}
 use lib.Seq.{paste}
-use borrow.Author.Tests.{le-leb, lt-leb, leb-true, not-false}
+use borrow.Author.Tests.{le-leb, lt-leb, leb-true}
 use Rattle.removal.specs.Turn.{flags, length_flags, flags_most, turn_read, turn_count, stay_queue, stay_images, go_on}
 use Rattle.removal.proofs.remove.Goals as goal
 use Rattle.removal.proofs.remove.Goals.{At-loop-i, else-not-goes, then-not-goes}
@@ -40,20 +40,20 @@ module _ (c : At-loop-i) where
 
   room_before : length F * W ≤ length M
   room_before =
-      let e : c.loop-i.i ≤ c.args.count = c.loop-i.invariant.0 in
+      let e : c.loop-i.i ≤ c.args.count = omega arith in
       rw passed (omega (arith, enough, mul-le-mul_right W e))
 
   kept_most : c.loop-i.kept ≤ c.loop-i.i
-  kept_most = omega (arith, flags_most c.args.which Q c.loop-i.i (omega arith), c.loop-i.invariant.1)
+  kept_most = omega (arith, flags_most c.args.which Q c.loop-i.i (omega arith), c.loop-i.invariant.0)
 
   queue_room : length F * 1 ≤ length Q
   queue_room = omega (arith, passed)
 
   queue_length : length c.loop-i.queue ≡ length Q
-  queue_length = ap length c.loop-i.invariant.2 ∙ length_closed 1 F Q queue_room
+  queue_length = ap length c.loop-i.invariant.1 ∙ length_closed 1 F Q queue_room
 
   images_length : length c.loop-i.images ≡ length M
-  images_length = ap length c.loop-i.invariant.3 ∙ length_closed W F M room_before
+  images_length = ap length c.loop-i.invariant.2 ∙ length_closed W F M room_before
 
   room : c.loop-i.i < c.args.count → (c.loop-i.i + 1) * W ≤ length M
   room h =
@@ -77,7 +77,7 @@ returns-then-not-blocks_fit c =
 
 pub loop-i-init : goal.loop-i-init
 unfolding closed
-loop-i-init c = (omega arith, rw (entries_are _ 0), rw (entries_are _ 0), rw (entries_are _ 0))
+loop-i-init c = (rw (entries_are _ 0), rw (entries_are _ 0), rw (entries_are _ 0))
 
 pub bounds-queue-i : goal.bounds-queue-i
 bounds-queue-i c = omega (arith, queue_length (goal.at.bounds-queue-i c).At-loop-i)
@@ -96,22 +96,21 @@ loop-i-preserved c =
     let at = (goal.at.loop-i-preserved c).At-loop-i in
     let more = c.loop-i-test.true in
     let inside : c.loop-i.i < length a.queue.now = omega arith in
-    let e : c.unpack-e.result ≡ unpack_of (get_or a.queue.now c.loop-i.i 0) =
-    c.unpack-e.ensures ∙ ap (λ q. unpack_of (get_or q c.loop-i.i 0)) c.loop-i.invariant.2 ∙ ap unpack_of (turn_read a.which a.queue.now a.images.now a.width c.loop-i.i inside (room at more)) in
-    let count = turn_count a.which a.queue.now a.images.now a.width c.loop-i.i inside (room at more) c.unpack-e.result e in
+    let e : c.unpack.result ≡ unpack_of (get_or a.queue.now c.loop-i.i 0) =
+    c.unpack.ensures ∙ ap (λ q. unpack_of (get_or q c.loop-i.i 0)) c.loop-i.invariant.1 ∙ ap unpack_of (turn_read a.which a.queue.now a.images.now a.width c.loop-i.i inside (room at more)) in
+    let count = turn_count a.which a.queue.now a.images.now a.width c.loop-i.i inside (room at more) c.unpack.result e in
     elim c.if-not-goes.branch [
-      | then-not-goes w ↦ let s : stays a.which c.unpack-e.result ≡ true = ap not (sym c.goes.ensures ∙ w.if-not-goes.true) in
+      | then-not-goes w ↦ let s : stays a.which c.unpack.result ≡ true = ap not (sym c.goes.ensures ∙ w.if-not-goes.true) in
           let word : set c.loop-i.queue c.loop-i.kept (get_or c.loop-i.queue c.loop-i.i 0) ≡ closed 1 (flags a.which a.queue.now (c.loop-i.i + 1)) a.queue.now =
-          rw (c.loop-i.invariant.2, c.loop-i.invariant.1) (stay_queue a.which a.queue.now a.images.now a.width c.loop-i.i inside (room at more) c.unpack-e.result e s) in
+          rw (c.loop-i.invariant.1, c.loop-i.invariant.0) (stay_queue a.which a.queue.now a.images.now a.width c.loop-i.i inside (room at more) c.unpack.result e s) in
           let image : paste c.loop-i.images (c.loop-i.kept * a.width) (drop (c.loop-i.i * a.width) c.loop-i.images) a.width ≡ closed a.width (flags a.which a.queue.now (c.loop-i.i + 1)) a.images.now =
-          rw (c.loop-i.invariant.3, c.loop-i.invariant.1) (stay_images a.which a.queue.now a.images.now a.width c.loop-i.i inside (room at more) c.unpack-e.result e s) in
-          (omega arith, omega (arith, count, ap bit s, w.kept-is, c.loop-i.invariant.1), w.queue-is ∙ w.move_entry.ensures.queue_after ∙ word, w.images-is ∙ w.move_entry.ensures.images_after ∙ image)
-      | else-not-goes w ↦ let s : stays a.which c.unpack-e.result ≡ false = ap not (sym c.goes.ensures ∙ w.if-not-goes.false) in
-          let on = go_on a.which a.queue.now a.images.now a.width c.loop-i.i inside (room at more) c.unpack-e.result e in (
-            omega arith,
-            omega (arith, count, ap bit s, w.kept-is, c.loop-i.invariant.1),
-            w.queue-is ∙ c.loop-i.invariant.2 ∙ on 1 a.queue.now (queue_room at) s,
-            w.images-is ∙ c.loop-i.invariant.3 ∙ on a.width a.images.now (room_before at) s,
+          rw (c.loop-i.invariant.2, c.loop-i.invariant.0) (stay_images a.which a.queue.now a.images.now a.width c.loop-i.i inside (room at more) c.unpack.result e s) in
+          (omega (arith, count, ap bit s, w.kept-is, c.loop-i.invariant.0), w.queue-is ∙ w.move_entry.ensures.queue_after ∙ word, w.images-is ∙ w.move_entry.ensures.images_after ∙ image)
+      | else-not-goes w ↦ let s : stays a.which c.unpack.result ≡ false = ap not (sym c.goes.ensures ∙ w.if-not-goes.false) in
+          let on = go_on a.which a.queue.now a.images.now a.width c.loop-i.i inside (room at more) c.unpack.result e in (
+            omega (arith, count, ap bit s, w.kept-is, c.loop-i.invariant.0),
+            w.queue-is ∙ c.loop-i.invariant.1 ∙ on 1 a.queue.now (queue_room at) s,
+            w.images-is ∙ c.loop-i.invariant.2 ∙ on a.width a.images.now (room_before at) s,
           )
     ]
 
@@ -128,4 +127,4 @@ returns c =
     let yes : leb a.count (length a.queue.now) ≡ true = le-leb a.count (length a.queue.now) c.if-count-queue.false in
     let also : leb (a.count * a.width) (length a.images.now) ≡ true = sym c.blocks_fit.ensures ∙ c.if-not-blocks_fit.false in
     let end : c.loop-i.i ≡ a.count = omega arith in
-    record { value = rw (yes, also, ← end) c.loop-i.invariant.1; queue_after = rw (yes, also, ← end) c.loop-i.invariant.2; images_after = rw (yes, also, ← end) c.loop-i.invariant.3 }
+    record { value = rw (yes, also, ← end) c.loop-i.invariant.0; queue_after = rw (yes, also, ← end) c.loop-i.invariant.1; images_after = rw (yes, also, ← end) c.loop-i.invariant.2 }

@@ -1,9 +1,6 @@
 -- `repeated` meets its contract. The loop's invariant: the entries passed are marked, and no two of them are alike.
 -- Assumes nothing.
-use mathlib.Core.Path.{◌≡◌}
-use lib.ListN.{length}
-use Prim.Native.Nat.{◌-◌, ◌≤◌, min}
-use mathlib.Core.Bool.{true}
+use Rattle.std.specs.Prelude.{◌≡◌, true, length}
 use Rattle.lists.specs.Folds.{distinct}
 use Rattle.entries.specs.Entries.{entries}
 use Rattle.repeats.specs.Repeats.{alike}
@@ -11,7 +8,4 @@ use Rattle.repeats.specs.Marks.{all_marked}
 use Rattle.repeats.proofs.repeated.Given as goal
 
 abbrev pub invariant-loop-i : goal.invariant-loop-i
-invariant-loop-i l = (l.n ≡ min l.count (length l.queue)) × (l.i ≤ l.n) × (length l.table ≡ 64) × (all_marked l.table (entries l.queue l.i) ≡ true) × (distinct alike (entries l.queue l.i) ≡ true)
-
-abbrev pub decreases-loop-i : goal.decreases-loop-i
-decreases-loop-i l = l.n - l.i
+invariant-loop-i l = (length l.table ≡ 64) × (all_marked l.table (entries l.queue l.i) ≡ true) × (distinct alike (entries l.queue l.i) ≡ true)

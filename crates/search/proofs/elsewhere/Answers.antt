@@ -32,4 +32,4 @@ pub returns : goal.returns
 returns c =
     let row = elsewhere_row c.args.f (file_known _ _ c.well_formed.0) c.args.part.now c.args.place c.args.isn c.args.value.now
     (omega (arith, c.field_count.ensures)) (c.if-value-field_length.false ∙ c.field_length.ensures) in
-    rw (c.other_has.ensures, c.slot_count-last.ensures, c.slot_length-size.ensures, c.field_offset-offset.ensures) row
+    rw (c.other_has.ensures, c.from.ensures, c.slot_count-last.ensures, c.slot_length-size.ensures, c.field_offset-offset.ensures) row

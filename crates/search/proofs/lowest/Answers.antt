@@ -20,4 +20,4 @@ first_record-requires-2 c = record { le_size = omega arith; le_from = omega arit
 
 pub returns : goal.returns
 unfolding lowest
-returns c = rw (c.first_record-2.ensures, c.slot_count-last.ensures, c.slot_length-size.ensures, has_record_is c.args.f c.args.part.now)
+returns c = rw (c.first_record-2.ensures, c.from.ensures, c.slot_count-last.ensures, c.slot_length-size.ensures, has_record_is c.args.f c.args.part.now)

@@ -1,6 +1,6 @@
 -- `files_valid` meets its contract, as `fields_valid` does.
 -- Assumes nothing.
-use Prim.Native.Nat.{ℕ, ◌-◌, ◌≤◌}
+use Prim.Native.Nat.{ℕ}
 use mathlib.Core.Path.{◌≡◌}
 use mathlib.Core.Bool.{true}
 use mathlib.Core.List.{map}
@@ -15,7 +15,4 @@ abbrev pub number : File → ℕ
 number f = f.number
 
 abbrev pub invariant-loop-i : goal.invariant-loop-i
-invariant-loop-i l = (l.i ≤ l.n) × (length l.numbers ≡ 16) × (take l.i l.numbers ≡ map number (take l.i (files_of l.d))) × (sound file_valid numbered_alike (take l.i (files_of l.d)) ≡ true)
-
-abbrev pub decreases-loop-i : goal.decreases-loop-i
-decreases-loop-i l = l.n - l.i
+invariant-loop-i l = (length l.numbers ≡ 16) × (take l.i l.numbers ≡ map number (take l.i (files_of l.fn.d))) × (sound file_valid numbered_alike (take l.i (files_of l.fn.d)) ≡ true)
