@@ -18,80 +18,59 @@ use nucleus::{Call, Command, Response, User};
 fn on_session(command: Command) -> bool
     ensures { result ≡ one_of on_session command }
 {
-    match command {
-        Command::Op | Command::Cl => true,
-        _ => false,
-    }
+    matches!(command, Command::Op | Command::Cl)
 }
 
 // What a user whose transaction is ready may call.
 fn serves_ready(command: Command) -> bool
     ensures { result ≡ one_of serving_ready command }
 {
-    match command {
-        Command::Et | Command::Bt => true,
-        _ => false,
-    }
+    matches!(command, Command::Et | Command::Bt)
 }
 
 // PE.
 fn sets_ready(command: Command) -> bool
     ensures { result ≡ one_of setting_ready command }
 {
-    match command {
-        Command::Pe => true,
-        _ => false,
-    }
+    matches!(command, Command::Pe)
 }
 
 // What an access-only user may call.
 fn serves_access_only(command: Command) -> bool
     ensures { result ≡ one_of serving_access_only command }
 {
-    match command {
-        Command::L1 | Command::Re | Command::Op | Command::Cl => true,
-        _ => false,
-    }
+    matches!(
+        command,
+        Command::L1 | Command::Re | Command::Op | Command::Cl
+    )
 }
 
 // "OP or CL in a transaction".
 fn session_in_transaction(command: Command, user: User) -> bool
     ensures { result ≡ (one_of on_session command && is_active user) }
 {
-    if on_session(command) {
-        return user.transaction.active;
-    }
-    false
+    on_session(command) && user.transaction.active
 }
 
 // "another call while ready".
 fn ready_refused(command: Command, user: User) -> bool
     ensures { result ≡ (is_ready user && not (one_of serving_ready command)) }
 {
-    if user.transaction.ready {
-        return !serves_ready(command);
-    }
-    false
+    user.transaction.ready && !serves_ready(command)
 }
 
 // "access-only user, call not OP, CL, L1, RE".
 fn access_refused(command: Command, user: User) -> bool
     ensures { result ≡ (user.access_only && not (one_of serving_access_only command)) }
 {
-    if user.access_only {
-        return !serves_access_only(command);
-    }
-    false
+    user.access_only && !serves_access_only(command)
 }
 
 // "PE without a transaction".
 fn transaction_missing(command: Command, user: User) -> bool
     ensures { result ≡ (one_of setting_ready command && not (is_active user)) }
 {
-    if sets_ready(command) {
-        return !user.transaction.active;
-    }
-    false
+    sets_ready(command) && !user.transaction.active
 }
 
 // 211, 29 and 212, of a user whose session is open.
@@ -136,8 +115,7 @@ pub fn admit_user(
     let user = handing::user_at(users, call.user);
     if user.overdue {
         let cleared = sessions::with_overdue(user, false);
-        let told = handing::with_user(users, call.user, cleared);
-        standing.users = told;
+        standing.users = handing::with_user(users, call.user, cleared);
         return Entered {
             verdict: Err(Response::BackedOut),
             standing,
@@ -152,7 +130,6 @@ pub fn admit_user(
     }
     let session = sessions::opened(user);
     let verdict = judge(command, session);
-    let people = handing::with_user(users, call.user, session);
-    standing.users = people;
+    standing.users = handing::with_user(users, call.user, session);
     Entered { verdict, standing }
 }

@@ -17,6 +17,7 @@ use shares::{Done, Share};
 
 // Adds a record at an ISN, with the caller's entry there and the image of what was there, after the rows 47, 70 and 198. `assigned` is the ISN
 // that N1 gave last from then on.
+#[tactic(auto, using(new_records::specs::Laws::new_length_most))]
 fn add_at(
     call: Call,
     most: usize,
@@ -38,8 +39,7 @@ fn add_at(
     ensures queue_after { queue.new ≡ changed_queue (last_cause f part.old call share queue.old images.old width most format.now buffer.now isn) f part.old isn call share queue.old clock }
     ensures images_after { images.new ≡ changed_images (last_cause f part.old call share queue.old images.old width most format.now buffer.now isn) f part.old isn call share queue.old clock width images.old }
 {
-    let room = hold_rows::room(call, share, queue, most, isn);
-    if let Err(cause) = room {
+    if let Err(cause) = hold_rows::room(call, share, queue, most, isn) {
         return shares::refused(cause, share);
     }
     let mut scratch = [0u8; MAX_RECORD_LENGTH];
@@ -57,6 +57,7 @@ fn add_at(
 }
 
 // N1: a record at an ISN that it finds, and keeps as the one that it last gave.
+#[tactic(auto, using(crate::specs::Laws::record_small, crate::specs::Laws::n1_full, crate::specs::Laws::n1_ends))]
 pub fn n1(
     call: Call,
     most: usize,
@@ -75,12 +76,10 @@ pub fn n1(
     ensures queue_after { queue.new ≡ changed_queue (n1_cause f part.old call share queue.old images.old width most format.now buffer.now (free_isn f part.old call share queue.old)) f part.old (isn_in (free_isn f part.old call share queue.old)) call share queue.old clock }
     ensures images_after { images.new ≡ changed_images (n1_cause f part.old call share queue.old images.old width most format.now buffer.now (free_isn f part.old call share queue.old)) f part.old (isn_in (free_isn f part.old call share queue.old)) call share queue.old clock width images.old }
 {
-    let brought = formats::storable(f, format, buffer);
-    if let Err(response) = brought {
-        return shares::refused(response, share);
+    if let Err(cause) = formats::storable(f, format, buffer) {
+        return shares::refused(cause, share);
     }
-    let free = assignment::free_isn(call, share, queue, f, part);
-    let Some(isn) = free else {
+    let Some(isn) = assignment::free_isn(call, share, queue, f, part) else {
         return shares::refused(Response::FileFull, share);
     };
     add_at(
@@ -89,6 +88,7 @@ pub fn n1(
 }
 
 // N2: a record at the given ISN.
+#[tactic(auto, using(crate::specs::Laws::record_small, crate::specs::Laws::n2_other, crate::specs::Laws::n2_there, crate::specs::Laws::n2_ends, crate::specs::Laws::assigned_kept))]
 pub fn n2(
     call: Call,
     most: usize,
@@ -107,8 +107,7 @@ pub fn n2(
     ensures queue_after { queue.new ≡ changed_queue (n2_cause f part.old call share queue.old images.old width most format.now buffer.now) f part.old call.isn call share queue.old clock }
     ensures images_after { images.new ≡ changed_images (n2_cause f part.old call share queue.old images.old width most format.now buffer.now) f part.old call.isn call share queue.old clock width images.old }
 {
-    let brought = formats::storable(f, format, buffer);
-    if let Err(cause) = brought {
+    if let Err(cause) = formats::storable(f, format, buffer) {
         return shares::refused(cause, share);
     }
     let found = queue::holder(queue, share.count, call.file, call.isn);

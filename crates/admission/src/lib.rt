@@ -2,7 +2,7 @@
 // back-outs, 9, the session that opens, 211, 29, 212.
 #![tactic(auto)]
 
-ghost use Rattle.std.specs.Prelude.{List, ◌≡◌, ℕ, max};
+ghost use Rattle.std.specs.Prelude.{List, ◌≡◌, ℕ};
 ghost use Rattle.nucleus.specs.Waiters.{left_by};
 ghost use Rattle.nucleus.specs.Clock.{clocked};
 ghost use Rattle.nucleus.specs.Step.{admitted_user};
@@ -15,17 +15,11 @@ use handing::Standing;
 use nucleus::{Call, Command, Response};
 
 // Whether the call is let in, and what the clock, a back-out and the session that opened left.
-#[derive(Clone, Copy)]
+#[derive(Clone, Copy, PartialEq, Eq)]
 pub struct Admitted {
     pub verdict: Result<(), Response>,
     pub clock: u32,
     pub standing: Standing,
-}
-
-fn latest(a: u32, b: u32) -> u32
-    ensures { result ≡ max a b }
-{
-    if a < b { b } else { a }
 }
 
 // The caller leaves the line before the clock's back-outs, so that none hands him a hold; "The same command, option, file and ISN again while he
@@ -45,17 +39,13 @@ pub fn admit(
         (clocked call.clock (left_by command call (nucleus_of d clock standing kept assigned store.old queue.old images.old)))
         ≡ admission_of result.verdict command (nucleus_of d result.clock result.standing kept assigned store.new queue.new images.new) }
 {
-    let waiting = standing.wait_queue;
-    let line = waiters::leave_by(command, call, waiting);
-    standing.wait_queue = line;
-    let now = latest(clock, call.clock);
+    standing.wait_queue = waiters::leave_by(command, call, standing.wait_queue);
+    let now = clock.max(call.clock);
     let passed = overdue::pass(d, now, standing, store, queue, images);
     let entered = access::admit_user(command, call, d, now, passed, store, queue, images);
-    let verdict = entered.verdict;
-    let after = entered.standing;
     Admitted {
-        verdict,
+        verdict: entered.verdict,
         clock: now,
-        standing: after,
+        standing: entered.standing,
     }
 }

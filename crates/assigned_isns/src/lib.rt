@@ -12,14 +12,8 @@ pub fn assigned_made(d: Definition, assigned: [u16; MAX_FILES]) -> bool
     ensures { result ≡ assigned_made assigned (files_of d) }
 {
     let n = definition::file_count(d);
-    let mut i = 0;
-    while i < n {
-        let max_isn = d.files[i].max_isn;
-        let isn = assigned[i];
-        if max_isn < isn {
-            return false;
-        }
-        i += 1;
-    }
-    true
+    d.files[..n]
+        .iter()
+        .zip(assigned.iter())
+        .all(|(file, isn)| *isn <= file.max_isn)
 }

@@ -1,7 +1,7 @@
 -- Laws of an ISN of a row of slots and of two searches, one after the other.
 -- Assumes nothing.
 use Rattle.std.specs.Prelude.{ℕ, ◌+◌, ◌-◌, ◌*◌, ◌≤◌, min, ◌≡◌, refl, Bool, not, ◌&&◌, List, [], ◌∷◌, ◌++◌, length, Option, Some, None}
-use Rattle.std.proofs.Common.{mul-le-mul, arith, sym, ◌∙◌, le-leb}
+use Rattle.std.proofs.Common.{mul-le-mul, arith, ◌∙◌, le-leb}
 use Rattle.lists.specs.Tests.{Outcome, holds, fails, outcome}
 use Rattle.lists.specs.Folds.{any}
 use Rattle.lists.specs.Numbers.{from_to}

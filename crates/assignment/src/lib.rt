@@ -20,21 +20,14 @@ fn recorded_at(part: &[u8], room: usize, at: usize, next: usize) -> bool
     requires at_lt_next { at < next }
     ensures { result ≡ recorded_at room part.now at next }
 {
-    if room < next {
-        return false;
-    }
-    part[at] == 1
+    next <= room && part[at] == 1
 }
 
 // Whether somebody holds the ISN.
 fn is_held(queue: &[u64], count: usize, file: u8, isn: u16) -> bool
     ensures { result ≡ any (is_of file isn) (entries queue.now count) }
 {
-    let found = queue::holder(queue, count, file, isn);
-    match found {
-        Some((_, _)) => true,
-        None => false,
-    }
+    queue::holder(queue, count, file, isn).is_some()
 }
 
 // Whether the slot has no record, and nobody holds its ISN. An ISN that its holder has emptied is not free.
@@ -53,10 +46,7 @@ fn is_free(
     requires isn_bound { isn < 65536 }
     ensures { result ≡ (not (recorded_at room part.now at next) && not (any (is_of file isn) (entries queue.now count))) }
 {
-    if recorded_at(part, room, at, next) {
-        return false;
-    }
-    !is_held(queue, count, file, isn as u16)
+    !recorded_at(part, room, at, next) && !is_held(queue, count, file, isn as u16)
 }
 
 // The first free ISN from `from` on and before `end`, in a part that has slots of a size in its first `room` bytes.
@@ -79,14 +69,12 @@ fn first_free(
     ensures { result ≡ first_of (free_at room size part.now file (entries queue.now count)) (numbers (end - from) from) }
 {
     let mut at = (from - 1) * size;
-    let mut isn = from;
-    while isn < end {
+    for isn in from..end {
         let next = at + size;
         if is_free(part, room, at, next, isn, file, queue, count) {
             return Some(isn as u16);
         }
         at = next;
-        isn += 1;
     }
     None
 }
@@ -97,15 +85,15 @@ pub fn free_isn(call: Call, share: Share, queue: &[u64], f: File, part: &[u8]) -
     ensures { result ≡ free_isn f part.now call share queue.now }
 {
     let size = records::slot_length(f);
-    let room = slices::least(layout::file_size(f), part.len());
-    let mark = share.last_assigned as usize;
+    let room = layout::file_size(f).min(part.len());
+    let mark = usize::from(share.last_assigned);
     let after = mark + 1;
     let later = first_free(
         part,
         room,
         size,
         after,
-        f.max_isn as usize + 1,
+        usize::from(f.max_isn) + 1,
         call.file,
         queue,
         share.count,

@@ -12,6 +12,7 @@ use nucleus::Call;
 use shares::{Done, Share};
 
 // BT: the caller is backed out.
+#[tactic(auto, using(removal::specs::Laws::remove_count_most))]
 pub fn bt(
     call: Call,
     d: Definition,
@@ -28,8 +29,7 @@ pub fn bt(
 {
     let count = release::back_out(d, width, call.user, store, queue, images, share.count);
     let gone = share.count - count;
-    let user = release::ended(share.user);
-    share.user = user;
+    share.user = release::ended(share.user);
     share.count = count;
     shares::good(0, gone, 0, share)
 }

@@ -32,7 +32,7 @@ pub fn changeable(
         return hold_rows::room(call, share, queue, most, call.isn);
     }
     // Past 145 an entry is the caller's, and then there is no new one.
-    let Some((_, _)) = found else {
+    let Some(_) = found else {
         return Err(Response::NotHeld);
     };
     Ok(())

@@ -2,7 +2,6 @@
 #![tactic(auto)]
 
 ghost use Rattle.std.specs.Prelude.{◌≡◌};
-ghost use Rattle.lists.specs.Tests.{eqbs};
 ghost use Rattle.nucleus.specs.Commands.{direct_commands, code_at, command_of};
 ghost use Rattle.codes.specs.Codes.{later_code_at, letters_at, command_at};
 
@@ -38,6 +37,7 @@ fn later_code_at(place: usize) -> [u8; 2]
 }
 
 // The code at a place of both tables, one behind the other.
+#[tactic(auto, using(crate::specs::Laws::letters_first, crate::specs::Laws::letters_later))]
 fn letters_at(place: usize) -> [u8; 2]
     ensures { result ≡ letters_at place }
 {
@@ -48,6 +48,7 @@ fn letters_at(place: usize) -> [u8; 2]
 }
 
 // The command at a place of both tables, from 0.
+#[tactic(auto, unfolding(crate::specs::Codes::command_at))]
 fn command_at(place: usize) -> Option<Command>
     ensures { result ≡ command_at place }
 {
@@ -70,22 +71,14 @@ fn command_at(place: usize) -> Option<Command>
     }
 }
 
-fn same_letters(a: [u8; 2], b: [u8; 2]) -> bool
-    ensures { result ≡ eqbs a b }
-{
-    a[0] == b[0] && a[1] == b[1]
-}
-
 // The command with the letters, sought in one table after the other.
 pub fn command_of(letters: [u8; 2]) -> Option<Command>
     ensures { result ≡ command_of direct_commands letters }
 {
-    let mut i = 0;
-    while i < DIRECT_COMMANDS {
-        if same_letters(letters_at(i), letters) {
+    for i in 0..DIRECT_COMMANDS {
+        if letters_at(i) == letters {
             return command_at(i);
         }
-        i += 1;
     }
     None
 }

@@ -10,6 +10,7 @@ use definition::File;
 use nucleus::Call;
 use shares::{Done, Share};
 
+#[tactic(auto, using(change_rows::specs::Laws::e1_cause_is))]
 pub fn e1(
     call: Call,
     most: usize,
@@ -26,8 +27,7 @@ pub fn e1(
     ensures queue_after { queue.new ≡ changed_queue (e1_cause call share queue.old f part.old most) f part.old call.isn call share queue.old clock }
     ensures images_after { images.new ≡ changed_images (e1_cause call share queue.old f part.old most) f part.old call.isn call share queue.old clock width images.old }
 {
-    let verdict = change_rows::changeable(call, most, share, f, part, queue);
-    if let Err(cause) = verdict {
+    if let Err(cause) = change_rows::changeable(call, most, share, f, part, queue) {
         return shares::refused(cause, share);
     }
     let held = keeping::keep_record(call, width, clock, share, f, part, queue, images, call.isn);

@@ -8,7 +8,7 @@ ghost use Rattle.nucleus.specs.Users.{max_sequence, counted, made_ready};
 ghost use Rattle.nucleus.specs.Nucleus.{max_et_data};
 ghost use Rattle.shares.specs.Outcomes.{et_done, et_queue, et_images, pe_done};
 
-use nucleus::{Call, EtData, MAX_ET_DATA, MAX_SEQUENCE, Response, Transaction, User};
+use nucleus::{Call, EtData, MAX_ET_DATA, MAX_SEQUENCE, Response, User};
 use removal::Removal;
 use shares::{Done, Share};
 
@@ -39,7 +39,7 @@ fn data_brought(held: EtData, buffer: &[u8]) -> EtData
         return held;
     }
     let mut bytes = held.bytes;
-    slices::copy(buffer, &mut bytes[..n]);
+    bytes[..n].copy_from_slice(buffer);
     EtData {
         length: n as u8,
         bytes,
@@ -66,14 +66,11 @@ pub fn et(
     let count = release::let_go(share.count, queue, images, width, which);
     let gone = share.count - count;
     let sequence = next_sequence(share.user.sequence);
-    let user = release::ended(counted(share.user, sequence));
-    let et_data = data_brought(share.et_data, buffer);
     let after = Share {
-        user,
-        et_data,
-        last_assigned: share.last_assigned,
+        user: release::ended(counted(share.user, sequence)),
+        et_data: data_brought(share.et_data, buffer),
         count,
-        waits: share.waits,
+        ..share
     };
     shares::good(0, gone, sequence, after)
 }
@@ -81,12 +78,7 @@ pub fn et(
 fn made_ready(mut user: User) -> User
     ensures { result ≡ made_ready user }
 {
-    let transaction = Transaction {
-        active: user.transaction.active,
-        begun: user.transaction.begun,
-        ready: true,
-    };
-    user.transaction = transaction;
+    user.transaction.ready = true;
     user
 }
 
@@ -94,7 +86,6 @@ fn made_ready(mut user: User) -> User
 pub fn pe(mut share: Share) -> Done
     ensures { result ≡ pe_done share }
 {
-    let user = made_ready(share.user);
-    share.user = user;
+    share.user = made_ready(share.user);
     shares::good(0, 0, 0, share)
 }

@@ -14,24 +14,15 @@ use nucleus::{MAX_USERS, User};
 // A place for each file number, from 0.
 const NUMBERS: usize = MAX_NUMBER + 1;
 
-fn wide(x: u8) -> usize
-    ensures { result ≡ x }
-{
-    x as usize
-}
-
 // The highest ISN by file number, 0 for none. From the last file on down, so that the first of a number decides.
 fn highest_isns(d: Definition) -> [u16; NUMBERS]
     ensures { result ≡ highest_isns d }
 {
     let mut table = [0u16; NUMBERS];
-    let mut i = definition::file_count(d);
-    while 0 < i {
-        i -= 1;
-        let number = wide(d.files[i].number);
-        let max_isn = d.files[i].max_isn;
+    for i in (0..definition::file_count(d)).rev() {
+        let number = usize::from(d.files[i].number);
         if number < NUMBERS {
-            table[number] = max_isn;
+            table[number] = d.files[i].max_isn;
         }
     }
     table
@@ -41,14 +32,8 @@ fn within_file(e: Entry, highest: &[u16; NUMBERS]) -> bool
     requires { length highest.now ≡ 17 }
     ensures { result ≡ within 1 (get_or highest.now e.file 0) e.isn }
 {
-    let file = e.file as usize;
-    if NUMBERS <= file {
-        return false;
-    }
-    if e.isn == 0 {
-        return false;
-    }
-    e.isn <= highest[file]
+    let file = usize::from(e.file);
+    file < NUMBERS && e.isn != 0 && e.isn <= highest[file]
 }
 
 // Users are looked at in their places: a call that took them would copy them all at each entry.
@@ -61,24 +46,20 @@ fn entries_fit(
     requires { length highest.now ≡ 17 }
     ensures { result ≡ all (entry_fits highest.now users) (entries queue.now count) }
 {
-    let n = slices::least(count, queue.len());
-    let mut i = 0;
-    while i < n {
-        let e = entries::unpack(queue[i]);
-        i += 1;
+    let n = count.min(queue.len());
+    for word in &queue[..n] {
+        let e = entries::unpack(*word);
         if !within_file(e, highest) {
             return false;
         }
-        let user = e.user as usize;
+        let user = usize::from(e.user);
         if user < 1 {
             return false;
         }
         if MAX_USERS < user {
             return false;
         }
-        let u = users[user - 1];
-        let t = u.transaction;
-        if !t.active {
+        if !users[user - 1].transaction.active {
             return false;
         }
     }

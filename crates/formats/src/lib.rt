@@ -18,19 +18,14 @@ fn judged(f: File, brings: bool, format: &[u8], buffer: &[u8]) -> Result<(), Res
     if !elements::format_valid(f, format) {
         return Err(Response::FormatInvalid);
     }
-    if brings {
-        if elements::named_twice(f, format) {
-            return Err(Response::FieldTwice);
-        }
+    if brings && elements::named_twice(f, format) {
+        return Err(Response::FieldTwice);
     }
-    let needed = elements::needed_within(f, format, buffer.len());
-    let Some(_) = needed else {
+    if elements::needed_within(f, format, buffer.len()).is_none() {
         return Err(Response::RecordLength);
-    };
-    if brings {
-        if !fields::values_allowed(f, format, buffer) {
-            return Err(Response::ValueInvalid);
-        }
+    }
+    if brings && !fields::values_allowed(f, format, buffer) {
+        return Err(Response::ValueInvalid);
     }
     Ok(())
 }

@@ -18,7 +18,7 @@ use nucleus::{MAX_CAPACITY, MAX_USERS, User, WaitQueue};
 use removal::Removal;
 
 // The part of the state that a back-out and a hand-over may change.
-#[derive(Clone, Copy)]
+#[derive(Clone, Copy, PartialEq, Eq)]
 pub struct Standing {
     pub users: [User; MAX_USERS],
     // The entries in use in the hold queue.
@@ -30,21 +30,17 @@ pub struct Standing {
 fn place(number: u8) -> usize
     ensures { result ≡ number - 1 }
 {
-    if number == 0 {
-        return 0;
-    }
-    (number - 1) as usize
+    usize::from(number.saturating_sub(1))
 }
 
 // The user of a number; one without a session where there is none.
 pub fn user_at(users: [User; MAX_USERS], number: u8) -> User
     ensures { result ≡ get_or users (number - 1) fresh_user }
 {
-    let at = place(number);
-    if at < MAX_USERS {
-        return users[at];
+    match users.get(place(number)) {
+        Some(user) => *user,
+        None => sessions::fresh_user(),
     }
-    sessions::fresh_user()
 }
 
 // The users with another value for one of them.
@@ -62,17 +58,17 @@ pub fn with_user(mut users: [User; MAX_USERS], number: u8, user: User) -> [User;
 pub fn record_there(d: Definition, file: u8, isn: u16, store: &[u8]) -> bool
     ensures { result ≡ has_record (file_found d (place d file)) (part_in d (place d file) store.now) isn }
 {
-    let found = layout::place(d, file);
-    let Some(i) = found else {
+    let Some(i) = layout::place(d, file) else {
         return false;
     };
     let f = definition::file_at(d, i);
-    let start = slices::least(layout::file_offset(d, i), store.len());
-    let end = start + slices::least(layout::file_size(f), store.len() - start);
+    let start = layout::file_offset(d, i).min(store.len());
+    let end = start + layout::file_size(f).min(store.len() - start);
     store::has_record(f, &store[start..end], isn)
 }
 
 // Gives the hold of a record to a user, who leaves the line; "A hold handed over opens a transaction then, where none is open".
+#[tactic(auto, using(crate::specs::Laws::taken))]
 fn take_hold(
     d: Definition,
     clock: u32,
@@ -88,7 +84,6 @@ fn take_hold(
         → taking user file isn (nucleus_of d clock standing kept assigned store.now queue.old images)
         ≡ nucleus_of d clock result kept assigned store.now queue.new images }
 {
-    let count = standing.count + 1;
     let entry = Entry {
         user,
         file,
@@ -97,20 +92,18 @@ fn take_hold(
         existed: record_there(d, file, isn, store),
     };
     queue::append(queue, standing.count, entry);
-    let users = standing.users;
-    let before = user_at(users, user);
+    let before = user_at(standing.users, user);
     let holder = sessions::started(before, clock);
-    let people = with_user(users, user, holder);
-    let waiting = standing.wait_queue;
-    let line = waiters::leave(waiting, user);
+    let line = waiters::leave(standing.wait_queue, user);
     Standing {
-        users: people,
-        count,
+        users: with_user(standing.users, user, holder),
+        count: standing.count + 1,
         wait_queue: line,
     }
 }
 
 // Hands one record over, where somebody waits for it.
+#[tactic(auto, using(crate::specs::Laws::nobody_gets, crate::specs::Laws::no_room))]
 pub fn hand_on(
     d: Definition,
     clock: u32,
@@ -124,9 +117,7 @@ pub fn hand_on(
         → handed_on file isn (nucleus_of d clock standing kept assigned store.now queue.old images)
         ≡ nucleus_of d clock result kept assigned store.now queue.new images }
 {
-    let line = standing.wait_queue;
-    let first = waiters::first_in_line(line, file, isn);
-    let Some((_, waiter)) = first else {
+    let Some((_, waiter)) = waiters::first_in_line(standing.wait_queue, file, isn) else {
         return standing;
     };
     if standing.count < queue.len() {
@@ -149,16 +140,14 @@ pub fn hand_over(
         → handed (entries words.now n) (nucleus_of d clock standing kept assigned store.now queue.old images)
         ≡ nucleus_of d clock result kept assigned store.now queue.new images }
 {
-    let last = slices::least(n, words.len());
+    let last = n.min(words.len());
     let mut after = standing;
-    let mut i = 0;
-    while i < last {
+    for word in &words[..last] {
         if after.wait_queue.waiting == 0 {
             return after;
         }
-        let e = entries::unpack(words[i]);
+        let e = entries::unpack(*word);
         after = hand_on(d, clock, after, e.file, e.isn, store, queue);
-        i += 1;
     }
     after
 }
@@ -181,16 +170,11 @@ pub fn force_out(
     let n = removal::pick_out(queue, standing.count, Removal::All { user }, &mut words);
     let width = layout::image_length(d);
     let count = release::back_out(d, width, user, store, queue, images, standing.count);
-    let users = standing.users;
-    let before = user_at(users, user);
-    let out = release::ended(before);
-    let people = with_user(users, user, out);
-    let waiting = standing.wait_queue;
-    let others = waiters::leave(waiting, user);
+    let out = release::ended(user_at(standing.users, user));
     let left = Standing {
-        users: people,
+        users: with_user(standing.users, user, out),
         count,
-        wait_queue: others,
+        wait_queue: waiters::leave(standing.wait_queue, user),
     };
     hand_over(d, clock, left, &words, n, store, queue)
 }

@@ -18,56 +18,42 @@ use shares::Share;
 pub fn other_holds(found: Option<(usize, Entry)>, user: u8) -> bool
     ensures { result ≡ other_holds user found }
 {
-    match found {
-        Some((_, entry)) => entry.user != user,
-        None => false,
-    }
+    found.is_some_and(|(_, entry)| entry.user != user)
 }
 
 // Whether it is the user's.
 fn is_holder(found: Option<(usize, Entry)>, user: u8) -> bool
     ensures { result ≡ is_holder user found }
 {
-    match found {
-        Some((_, entry)) => entry.user == user,
-        None => false,
-    }
+    found.is_some_and(|(_, entry)| entry.user == user)
 }
 
 // Whether the caller has an entry of the ISN.
 pub fn held_by_caller(call: Call, queue: &[u64], count: usize, isn: u16) -> bool
     ensures { result ≡ is_holder call.user (holder (entries queue.now count) call.file isn) }
 {
-    let found = queue::holder(queue, count, call.file, isn);
-    is_holder(found, call.user)
+    is_holder(queue::holder(queue, count, call.file, isn), call.user)
 }
 
 // Whether the user is at or past his hold limit.
 fn at_limit(call: Call, share: Share, queue: &[u64]) -> bool
     ensures { result ≡ at_limit call share queue.now }
 {
-    share.user.hold_limit as usize <= queue::held_by(queue, share.count, call.user)
+    usize::from(share.user.hold_limit) <= queue::held_by(queue, share.count, call.user)
 }
 
 // Whether a caller whom another keeps from an ISN waits for it: with option `W`, where he is in the line or may join it.
 fn waits(call: Call, share: Share, queue: &[u64]) -> bool
     ensures { result ≡ (eqb call.option option_W && (share.waits || not (at_limit call share queue.now))) }
 {
-    if call.option != WAIT {
-        return false;
-    }
-    if share.waits {
-        return true;
-    }
-    !at_limit(call, share, queue)
+    call.option == WAIT && (share.waits || !at_limit(call, share, queue))
 }
 
 // HI's and L4's rows of an ISN that another holds: who waits for it, who does not.
 pub fn others(call: Call, share: Share, queue: &[u64], isn: u16) -> Result<(), Response>
     ensures { result ≡ verdict (first_cause (row_waits call share queue.now isn ∷ row_other call share queue.now isn ∷ [])) }
 {
-    let found = queue::holder(queue, share.count, call.file, isn);
-    if !other_holds(found, call.user) {
+    if !other_holds(queue::holder(queue, share.count, call.file, isn), call.user) {
         return Ok(());
     }
     if waits(call, share, queue) {

@@ -19,10 +19,11 @@ fn next_count(count: usize, places: usize) -> usize
 }
 
 // Holds an ISN: a new entry, unless the caller has one, and the start of his transaction, unless he is in one.
+#[tactic(auto, unfolding(shares::specs::Chains::held_share, shares::specs::Chains::held_queue))]
 pub fn hold(
     call: Call,
     clock: u32,
-    mut share: Share,
+    share: Share,
     queue: &mut [u64],
     isn: u16,
     existed: bool,
@@ -40,15 +41,17 @@ pub fn hold(
         changed: false,
         existed,
     };
-    let user = sessions::started(share.user, clock);
     let count = next_count(share.count, queue.len());
     queue::append(queue, share.count, entry);
-    share.user = user;
-    share.count = count;
-    share
+    Share {
+        user: sessions::started(share.user, clock),
+        count,
+        ..share
+    }
 }
 
 // HI.
+#[tactic(auto, unfolding(shares::specs::Chains::hi_cause))]
 pub fn hi(
     call: Call,
     most: usize,
@@ -61,12 +64,10 @@ pub fn hi(
     ensures value { result ≡ hi_done call share queue.old most clock }
     ensures queue_after { queue.new ≡ hi_queue call share queue.old most f part.now }
 {
-    let others = hold_rows::others(call, share, queue, call.isn);
-    if let Err(cause) = others {
+    if let Err(cause) = hold_rows::others(call, share, queue, call.isn) {
         return shares::refused(cause, share);
     }
-    let verdict = hold_rows::room(call, share, queue, most, call.isn);
-    if let Err(cause) = verdict {
+    if let Err(cause) = hold_rows::room(call, share, queue, most, call.isn) {
         return shares::refused(cause, share);
     }
     let existed = store::has_record(f, part, call.isn);

@@ -11,6 +11,7 @@ use nucleus::Call;
 use shares::Share;
 
 // Holds an ISN, and keeps the content as the image of its entry at the entry's first change, if a record existed.
+#[tactic(auto, unfolding(shares::specs::Chains::imaged_queue, shares::specs::Chains::imaged_images))]
 fn keep(
     call: Call,
     clock: u32,
@@ -27,15 +28,14 @@ fn keep(
     ensures images_after { images.new ≡ imaged_images call share queue.old clock isn existed width content.now images.old }
 {
     let held = holding::hold(call, clock, share, queue, isn, existed);
-    let found = queue::holder(queue, held.count, call.file, isn);
-    let Some((at, _)) = found else {
-        return held;
-    };
-    changes::first_change(queue, images, width, at, existed, content);
+    if let Some((at, _)) = queue::holder(queue, held.count, call.file, isn) {
+        changes::first_change(queue, images, width, at, existed, content);
+    }
     held
 }
 
 // Holds an ISN, and keeps the record there, if there is one, as the image of its entry at the entry's first change.
+#[tactic(auto, using(crate::specs::Laws::image_shown))]
 pub fn keep_record(
     call: Call,
     width: usize,

@@ -10,11 +10,12 @@ ghost use Rattle.new_records.specs.NewRecords.{new_length, with_new};
 use definition::File;
 
 // What lies behind the first byte of an ISN's slot, as much of it as the part has.
+#[tactic(auto, using(lists::specs::Parts::part_least))]
 fn slot_bytes(f: File, part: &[u8], isn: u16) -> &[u8]
     ensures { result.now ≡ record_of f part.now isn }
 {
-    let start = slices::least(records::slot_offset(f, isn) + 1, part.len());
-    let end = start + slices::least(records::record_length(f), part.len() - start);
+    let start = (records::slot_offset(f, isn) + 1).min(part.len());
+    let end = start + records::record_length(f).min(part.len() - start);
     &part[start..end]
 }
 
@@ -23,13 +24,14 @@ fn make(f: File, old: &[u8], format: &[u8], buffer: &[u8], content: &mut [u8])
     requires { length content.old ≡ length old.now }
     ensures { content.new ≡ write_fields f format.now buffer.now (null_record f old.now) }
 {
-    slices::copy(old, content);
+    content.copy_from_slice(old);
     nulls::put_nulls(f, content);
     fields::write_fields(f, format, buffer, content);
 }
 
 // Makes the record to be added at an ISN at the front of `scratch`, and answers how many bytes it has. A place that is too short gets as much of
 // it as it has room for.
+#[tactic(auto, unfolding(crate::specs::NewRecords::new_length, crate::specs::NewRecords::with_new))]
 pub fn new_record(
     f: File,
     part: &[u8],
@@ -42,7 +44,7 @@ pub fn new_record(
     ensures scratch_after { scratch.new ≡ with_new f part.now format.now buffer.now isn scratch.old }
 {
     let old = slot_bytes(f, part, isn);
-    let n = slices::least(old.len(), scratch.len());
+    let n = old.len().min(scratch.len());
     make(f, &old[..n], format, buffer, &mut scratch[..n]);
     n
 }

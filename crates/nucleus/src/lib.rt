@@ -18,7 +18,7 @@ pub const MAX_ET_DATA: usize = 64;
 pub const MAX_SEQUENCE: u32 = 4294967295;
 
 // The thirteen commands in the order of the table of commands, and behind them the later ones.
-#[derive(Clone, Copy)]
+#[derive(Clone, Copy, PartialEq, Eq)]
 pub enum Command {
     Hi,
     Ri,
@@ -61,7 +61,7 @@ pub const COMMITTED: u8 = b'C';
 pub const WAIT: u8 = b'W';
 
 // A call's arguments, but for its two buffers.
-#[derive(Clone, Copy)]
+#[derive(Clone, Copy, PartialEq, Eq)]
 pub struct Call {
     pub command: [u8; 2],
     pub option: u8,
@@ -74,7 +74,7 @@ pub struct Call {
 }
 
 // The causes of document 01's response table, in its order; `number` in specs/Responses.antt gives the number of each.
-#[derive(Clone, Copy)]
+#[derive(Clone, Copy, PartialEq, Eq)]
 pub enum Response {
     Good,
     DefinitionInvalid,
@@ -104,7 +104,7 @@ pub enum Response {
     ValueTaken,
 }
 
-#[derive(Clone, Copy)]
+#[derive(Clone, Copy, PartialEq, Eq)]
 pub struct Answer {
     pub response: Response,
     pub isn: u16,
@@ -115,7 +115,7 @@ pub struct Answer {
 // All that is kept for a user's transaction: whether he is in one, the clock at which it began, and whether PE set it ready, so that it waits for
 // ET or BT alone.
 #[repr(C)]
-#[derive(Clone, Copy)]
+#[derive(Clone, Copy, PartialEq, Eq)]
 pub struct Transaction {
     pub begun: u32,
     pub active: bool,
@@ -124,7 +124,7 @@ pub struct Transaction {
 
 // A user's session and transaction. What belongs to an ended session or transaction keeps its last values and decides nothing.
 #[repr(C)]
-#[derive(Clone, Copy)]
+#[derive(Clone, Copy, PartialEq, Eq)]
 pub struct User {
     pub sequence: u32,
     pub transaction: Transaction,
@@ -165,7 +165,7 @@ impl User {
 
 // A user's ET data: the first `length` bytes.
 #[repr(C)]
-#[derive(Clone, Copy)]
+#[derive(Clone, Copy, PartialEq, Eq)]
 pub struct EtData {
     pub length: u8,
     pub bytes: [u8; MAX_ET_DATA],
@@ -174,7 +174,7 @@ pub struct EtData {
 // Who waits for which record, oldest first (document 02, No. 1: the lines of all records in one): a small hold queue of its own, with a place for
 // each user. An entry of it is a user, a file and an ISN; its `changed` says that he waits by L4, and not by HI.
 #[repr(C)]
-#[derive(Clone, Copy)]
+#[derive(Clone, Copy, PartialEq, Eq)]
 pub struct WaitQueue {
     pub places: [u64; MAX_USERS],
     // The places in use.

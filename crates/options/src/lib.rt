@@ -11,49 +11,34 @@ use nucleus::{ACCESS_ONLY, AT_OR_ABOVE, BLANK, COMMITTED, Command, TAKE_HOLD, WA
 fn reads_values(command: Command) -> bool
     ensures { result ≡ one_of reading_values command }
 {
-    match command {
-        Command::L1 | Command::L4 => true,
-        _ => false,
-    }
+    matches!(command, Command::L1 | Command::L4)
 }
 
 // A1 and E1, which need a hold.
 fn changes_held(command: Command) -> bool
     ensures { result ≡ one_of changing_held command }
 {
-    match command {
-        Command::A1 | Command::E1 => true,
-        _ => false,
-    }
+    matches!(command, Command::A1 | Command::E1)
 }
 
 // L1, which may read what ended transactions left.
 fn reads_committed(command: Command) -> bool
     ensures { result ≡ one_of reading_committed command }
 {
-    match command {
-        Command::L1 => true,
-        _ => false,
-    }
+    matches!(command, Command::L1)
 }
 
 // HI and L4, which may wait for a record that another holds.
 fn may_wait(command: Command) -> bool
     ensures { result ≡ one_of may_wait command }
 {
-    match command {
-        Command::Hi | Command::L4 => true,
-        _ => false,
-    }
+    matches!(command, Command::Hi | Command::L4)
 }
 
 fn opens(command: Command) -> bool
     ensures { result ≡ one_of opening_only command }
 {
-    match command {
-        Command::Op => true,
-        _ => false,
-    }
+    matches!(command, Command::Op)
 }
 
 // Whether the option is named for the command; a blank is none.
@@ -75,18 +60,12 @@ pub fn has_option(command: Command, option: u8) -> bool
 pub fn seeks(command: Command, option: u8) -> bool
     ensures { result ≡ (one_of reading_values command && eqb option option_I) }
 {
-    if reads_values(command) {
-        return option == AT_OR_ABOVE;
-    }
-    false
+    reads_values(command) && option == AT_OR_ABOVE
 }
 
 // HI and L4 with option `W`, which wait in line.
 pub fn waits(command: Command, option: u8) -> bool
     ensures { result ≡ (one_of may_wait command && eqb option option_W) }
 {
-    if may_wait(command) {
-        return option == WAIT;
-    }
-    false
+    may_wait(command) && option == WAIT
 }

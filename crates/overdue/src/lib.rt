@@ -30,8 +30,7 @@ fn time_out(
     let mut left = handing::force_out(d, clock, standing, user, store, queue, images);
     let people = left.users;
     let marked = sessions::with_overdue(handing::user_at(people, user), true);
-    let users = handing::with_user(people, user, marked);
-    left.users = users;
+    left.users = handing::with_user(people, user, marked);
     left
 }
 
@@ -49,14 +48,11 @@ pub fn pass(
         ≡ nucleus_of d clock result kept assigned store.new queue.new images.new }
 {
     let mut after = standing;
-    let mut i = 0;
-    while i < MAX_USERS {
-        let at = i;
-        let user = after.users[at];
-        i += 1;
-        if sessions::is_due(user, clock) {
-            after = time_out(d, clock, after, i as u8, store, queue, images);
+    for at in 0..MAX_USERS {
+        if !sessions::is_due(after.users[at], clock) {
+            continue;
         }
+        after = time_out(d, clock, after, at as u8 + 1, store, queue, images);
     }
     after
 }

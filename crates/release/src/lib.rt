@@ -8,7 +8,7 @@ ghost use Rattle.hold.specs.Hold.{restore};
 ghost use Rattle.nucleus.specs.Users.{ended};
 
 use definition::Definition;
-use nucleus::{Transaction, User};
+use nucleus::User;
 use removal::Removal;
 
 // Lets entries go with their images; answers how many are left. Nothing else removes an entry from the hold queue.
@@ -49,11 +49,7 @@ pub fn back_out(
 pub fn ended(mut user: User) -> User
     ensures { result ≡ ended user }
 {
-    let transaction = Transaction {
-        active: false,
-        begun: user.transaction.begun,
-        ready: false,
-    };
-    user.transaction = transaction;
+    user.transaction.active = false;
+    user.transaction.ready = false;
     user
 }

@@ -12,9 +12,10 @@ use removal::Removal;
 use shares::{Done, Share};
 
 // Drops entries; answers how many went.
+#[tactic(auto, using(removal::specs::Laws::remove_count_most))]
 fn dropped(
     isn: u16,
-    mut share: Share,
+    share: Share,
     queue: &mut [u64],
     images: &mut [u8],
     width: usize,
@@ -26,11 +27,15 @@ fn dropped(
 {
     let left = release::let_go(share.count, queue, images, width, which);
     let gone = share.count - left;
-    share.count = left;
-    shares::good(isn, gone, 0, share)
+    let kept = Share {
+        count: left,
+        ..share
+    };
+    shares::good(isn, gone, 0, kept)
 }
 
 // RI: the caller's unchanged entry, or for ISN 0 all of his unchanged ones.
+#[tactic(auto, unfolding(shares::specs::Chains::ri_cause))]
 pub fn ri(call: Call, share: Share, queue: &mut [u64], images: &mut [u8], width: usize) -> Done
     ensures value { result ≡ ri_done call share queue.old images.old width }
     ensures queue_after { queue.new ≡ ri_queue call share queue.old images.old width }
@@ -40,8 +45,7 @@ pub fn ri(call: Call, share: Share, queue: &mut [u64], images: &mut [u8], width:
         let which = Removal::Unchanged { user: call.user };
         return dropped(call.isn, share, queue, images, width, which);
     }
-    let found = queue::holder(queue, share.count, call.file, call.isn);
-    let Some((_, entry)) = found else {
+    let Some((_, entry)) = queue::holder(queue, share.count, call.file, call.isn) else {
         return shares::refused(Response::NotHeld, share);
     };
     if entry.user != call.user {

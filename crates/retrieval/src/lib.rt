@@ -18,31 +18,34 @@ use nucleus::{AT_OR_ABOVE, COMMITTED, Call, Response};
 use shares::{Done, Share};
 
 // The ISN to read: the given one, or with option `I` the lowest at or above it that has a record.
+#[tactic(auto, unfolding(shares::specs::Chains::sought))]
 fn sought(call: Call, f: File, part: &[u8]) -> Option<u16>
     ensures { result ≡ sought call f part.now }
 {
     if call.option == AT_OR_ABOVE {
-        return search::lowest(f, part, call.isn);
+        search::lowest(f, part, call.isn)
+    } else {
+        Some(call.isn)
     }
-    Some(call.isn)
 }
 
 // 41, 53 and 3, and the ISN to read.
-fn read_target(call: Call, f: File, part: &[u8], format: &[u8], buffer: &[u8]) -> Result<u16, Response>
+#[tactic(auto, unfolding(crate::specs::Retrieval::read_target))]
+fn read_target(
+    call: Call,
+    f: File,
+    part: &[u8],
+    format: &[u8],
+    buffer: &[u8],
+) -> Result<u16, Response>
     ensures { result ≡ read_target call f part.now format.now buffer.now }
 {
-    let readable = formats::readable(f, format, buffer);
-    if let Err(cause) = readable {
-        return Err(cause);
-    }
-    let found = sought(call, f, part);
-    let Some(isn) = found else {
-        return Err(Response::NotFound);
-    };
-    Ok(isn)
+    formats::readable(f, format, buffer)?;
+    sought(call, f, part).ok_or(Response::NotFound)
 }
 
 // Writes the named fields of a record at the front of the record buffer and answers how many bytes those are.
+#[tactic(auto, unfolding(fields::specs::Fields::fits))]
 fn read(f: File, content: &[u8], format: &[u8], buffer: &mut [u8]) -> usize
     requires f_in_bounds { record_length f ≤ length content.now }
     requires format_in_bounds { length_needed f format.now ≤ length buffer.old }
@@ -53,16 +56,19 @@ fn read(f: File, content: &[u8], format: &[u8], buffer: &mut [u8]) -> usize
 }
 
 // The version of a record that L1 reads: the store's, or with option `C` the one that ended transactions left.
+#[tactic(auto, unfolding(shares::specs::Chains::version_at))]
 fn version_at(call: Call, share: Share, queue: &[u64], isn: u16) -> Version
     ensures { result ≡ version_at call share queue.now isn }
 {
     if call.option == COMMITTED {
-        return committed::committed_version(queue, share.count, call.file, isn);
+        committed::committed_version(queue, share.count, call.file, isn)
+    } else {
+        Version::Stored
     }
-    Version::Stored
 }
 
 // L1 looks at no hold, but for the images of changed entries with option `C`.
+#[tactic(auto, using(crate::proofs::Causes::l1_refused, crate::specs::Laws::target_room, committed::specs::Laws::version_length), unfolding(shares::specs::Outcomes::version_buffer))]
 pub fn l1<'a>(
     call: Call,
     share: Share,
@@ -77,8 +83,7 @@ pub fn l1<'a>(
     ensures value { result ≡ l1_done call share f part.now format.now buffer.old queue.now images.now width }
     ensures buffer_after { buffer.new ≡ l1_buffer call share f part.now format.now buffer.old queue.now images.now width }
 {
-    let target = read_target(call, f, part, format, buffer);
-    let isn = match target {
+    let isn = match read_target(call, f, part, format, buffer) {
         Ok(isn) => isn,
         Err(cause) => return shares::refused(cause, share),
     };
@@ -103,10 +108,7 @@ fn holdable(
 ) -> Result<(), Response>
     ensures { result ≡ verdict (first_cause (row_waits call share queue.now isn ∷ row_other call share queue.now isn ∷ row_there f part.now isn ∷ rows_room call share queue.now most isn)) }
 {
-    let others = hold_rows::others(call, share, queue, isn);
-    if let Err(cause) = others {
-        return Err(cause);
-    }
+    hold_rows::others(call, share, queue, isn)?;
     if !store::has_record(f, part, isn) {
         return Err(Response::Presence);
     }
@@ -114,6 +116,7 @@ fn holdable(
 }
 
 // L4 holds the ISN and reads.
+#[tactic(auto, using(crate::proofs::Causes::l4_refused, crate::proofs::Causes::l4_left, crate::proofs::Causes::held_there, crate::specs::Laws::target_sought, crate::specs::Laws::target_room, store::proofs::Laws::shown_length), unfolding(shares::specs::Outcomes::read_buffer))]
 pub fn l4(
     call: Call,
     most: usize,
@@ -129,13 +132,11 @@ pub fn l4(
     ensures queue_after { queue.new ≡ l4_queue call share f part.now format.now buffer.old queue.old most }
     ensures buffer_after { buffer.new ≡ l4_buffer call share f part.now format.now buffer.old queue.old most }
 {
-    let target = read_target(call, f, part, format, buffer);
-    let isn = match target {
+    let isn = match read_target(call, f, part, format, buffer) {
         Ok(isn) => isn,
         Err(cause) => return shares::refused(cause, share),
     };
-    let verdict = holdable(call, most, share, f, part, queue, isn);
-    if let Err(cause) = verdict {
+    if let Err(cause) = holdable(call, most, share, f, part, queue, isn) {
         return shares::refused(cause, share);
     }
     // A record is there.

@@ -31,8 +31,7 @@ pub fn op(call: Call, mut share: Share) -> Done
     ensures { result ≡ op_done call share }
 {
     let access_only = call.option == ACCESS_ONLY;
-    let user = set_session(share.user, call.isn, call.limit, access_only);
-    share.user = user;
+    share.user = set_session(share.user, call.isn, call.limit, access_only);
     shares::good(0, 0, 0, share)
 }
 

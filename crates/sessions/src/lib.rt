@@ -29,16 +29,8 @@ pub fn fresh_user() -> User
 pub fn is_due(user: User, clock: u32) -> bool
     ensures { result ≡ is_due clock user }
 {
-    if !user.transaction.active {
-        return false;
-    }
-    if user.transaction.ready {
-        return false;
-    }
-    if clock < user.transaction.begun {
-        return false;
-    }
-    (user.time_limit as u32) < clock - user.transaction.begun
+    let t = user.transaction;
+    t.active && !t.ready && t.begun <= clock && u32::from(user.time_limit) < clock - t.begun
 }
 
 // Marked as overdue, or the mark cleared.
@@ -56,11 +48,10 @@ pub fn started(mut user: User, clock: u32) -> User
     if user.transaction.active {
         return user;
     }
-    let transaction = Transaction {
+    user.transaction = Transaction {
         active: true,
         begun: clock,
         ready: false,
     };
-    user.transaction = transaction;
     user
 }

@@ -9,7 +9,7 @@ ghost use Rattle.nucleus.specs.Responses.{number};
 ghost use Rattle.nucleus.specs.Waiters.{lets_go};
 ghost use Rattle.nucleus.specs.declared.EtData.{EtData};
 ghost use Rattle.handing.specs.Parts.{nucleus_of};
-ghost use Rattle.settling.specs.Settling.{releasing_only, going_words, lined_by};
+ghost use Rattle.settling.specs.Settling.{going_words, lined_by};
 
 use definition::Definition;
 use handing::Standing;
@@ -24,26 +24,14 @@ const GOOD: u16 = 0;
 fn lets_go(command: Command) -> bool
     ensures { result ≡ one_of letting_go command }
 {
-    match command {
-        Command::Ri | Command::Et | Command::Bt => true,
-        _ => false,
-    }
-}
-
-fn releases(command: Command) -> bool
-    ensures { result ≡ one_of releasing_only command }
-{
-    match command {
-        Command::Ri => true,
-        _ => false,
-    }
+    matches!(command, Command::Ri | Command::Et | Command::Bt)
 }
 
 // What a command that lets go removes: RI what it drops, ET and BT all of the caller.
 fn removal_of(command: Command, call: Call) -> Removal
     ensures { result ≡ lets_go command call }
 {
-    if !releases(command) {
+    if command != Command::Ri {
         return Removal::All { user: call.user };
     }
     if call.isn == 0 {
@@ -63,11 +51,11 @@ pub fn let_go(command: Command, call: Call, queue: &[u64], count: usize, out: &m
     if !lets_go(command) {
         return 0;
     }
-    let which = removal_of(command, call);
-    removal::pick_out(queue, count, which, out)
+    removal::pick_out(queue, count, removal_of(command, call), out)
 }
 
 // After it: whatever else the state keeps. The first n words are of the entries that it lets go where it is good.
+#[tactic(auto, using(crate::specs::Laws::lined_waiting, crate::specs::Laws::lined_refused, crate::specs::Laws::lined_kept, crate::specs::Laws::lined_handed))]
 pub fn settle(
     command: Command,
     call: Call,
@@ -86,19 +74,12 @@ pub fn settle(
 {
     let number = response_numbers::number(response);
     if number == WAITING {
-        let waiters = standing.wait_queue;
-        let users = standing.users;
-        let line = waiters::join(command, call, waiters);
         return Standing {
-            users,
-            count: standing.count,
-            wait_queue: line,
+            wait_queue: waiters::join(command, call, standing.wait_queue),
+            ..standing
         };
     }
-    if number != GOOD {
-        return standing;
-    }
-    if !lets_go(command) {
+    if number != GOOD || !lets_go(command) {
         return standing;
     }
     handing::hand_over(d, clock, standing, words, n, store, queue)

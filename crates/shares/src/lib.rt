@@ -8,7 +8,7 @@ ghost use Rattle.shares.specs.Shares.{done};
 use nucleus::{Answer, EtData, Response, User};
 
 // The parts of the state that a command reads and may change.
-#[derive(Clone, Copy)]
+#[derive(Clone, Copy, PartialEq, Eq)]
 pub struct Share {
     // The caller.
     pub user: User,
@@ -22,7 +22,7 @@ pub struct Share {
 }
 
 // What a command answers, and its share afterwards.
-#[derive(Clone, Copy)]
+#[derive(Clone, Copy, PartialEq, Eq)]
 pub struct Done {
     pub answer: Answer,
     pub share: Share,

@@ -9,21 +9,15 @@ ghost use Rattle.understanding.specs.Understanding.{understood_as, isn_refused};
 use nucleus::{Call, Command, MAX_USERS, Response};
 
 // The command of a call, or the cause that refuses it.
+#[tactic(auto, unfolding(crate::specs::Understanding::understood_as, nucleus::specs::Rows::rows_understood))]
 pub fn understand(call: Call) -> Result<Command, Response>
     ensures { result ≡ understood_as direct_commands call }
 {
-    let letters = call.command;
-    let decoded = codes::command_of(letters);
-    let Some(command) = decoded else {
-        return Err(Response::CommandUnknown);
-    };
+    let command = codes::command_of(call.command).ok_or(Response::CommandUnknown)?;
     if !options::has_option(command, call.option) {
         return Err(Response::CommandUnknown);
     }
-    if call.user < 1 {
-        return Err(Response::UserUnknown);
-    }
-    if MAX_USERS < call.user as usize {
+    if !(1..=MAX_USERS).contains(&usize::from(call.user)) {
         return Err(Response::UserUnknown);
     }
     Ok(command)
@@ -33,30 +27,23 @@ pub fn understand(call: Call) -> Result<Command, Response>
 fn at_given_isn(command: Command) -> bool
     ensures { result ≡ one_of at_given_isn command }
 {
-    match command {
+    matches!(
+        command,
         Command::Hi
-        | Command::Ri
-        | Command::L1
-        | Command::L4
-        | Command::A1
-        | Command::E1
-        | Command::N2 => true,
-        _ => false,
-    }
+            | Command::Ri
+            | Command::L1
+            | Command::L4
+            | Command::A1
+            | Command::E1
+            | Command::N2
+    )
 }
 
 // 113, first: the ISN that the call gives is not one of its file's. N1 is given none, and option `I` may be given any.
 pub fn isn_refused(command: Command, call: Call, max_isn: u16) -> bool
     ensures { result ≡ isn_refused command call max_isn }
 {
-    if options::seeks(command, call.option) {
-        return false;
-    }
-    if !at_given_isn(command) {
-        return false;
-    }
-    if call.isn < 1 {
-        return true;
-    }
-    max_isn < call.isn
+    !options::seeks(command, call.option)
+        && at_given_isn(command)
+        && !(1..=max_isn).contains(&call.isn)
 }

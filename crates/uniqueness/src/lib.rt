@@ -7,33 +7,22 @@ ghost use Rattle.lists.specs.Folds.{any};
 ghost use Rattle.definition.specs.Table.{field_at, is_unique};
 ghost use Rattle.elements.specs.Elements.{places};
 ghost use Rattle.shares.specs.Chains.{taken};
-ghost use Rattle.uniqueness.specs.Uniqueness.{is_place, is_judged, value_taken, field_taken, some_taken};
+ghost use Rattle.uniqueness.specs.Uniqueness.{is_judged, value_taken, field_taken, some_taken};
 
 use definition::{FieldOption, File};
 use elements::ELEMENT;
 use nucleus::Call;
 use shares::Share;
 
-fn is_place(k: usize, found: Option<usize>) -> bool
-    ensures { result ≡ is_place k found }
-{
-    let Some(j) = found else {
-        return false;
-    };
-    k == j
-}
-
 // Whether the format buffer names the field at a place.
+#[tactic(auto, using(elements::proofs::Steps::places_step, elements::proofs::Steps::places_end))]
 fn is_named(f: File, format: &[u8], k: usize) -> bool
     ensures { result ≡ any (eqb k) (places f format.now) }
 {
-    let mut i = 0;
-    while i < format.len() {
-        let found = elements::element(f, format, i);
-        if is_place(k, found) {
+    for i in (0..format.len()).step_by(ELEMENT) {
+        if elements::element(f, format, i) == Some(k) {
             return true;
         }
-        i += ELEMENT;
     }
     false
 }
@@ -41,26 +30,14 @@ fn is_named(f: File, format: &[u8], k: usize) -> bool
 fn is_unique(f: File, k: usize) -> bool
     ensures { result ≡ is_unique (field_at f k).option }
 {
-    let g = definition::field_at(f, k);
-    let option = g.option;
-    match option {
-        FieldOption::Plain => false,
-        FieldOption::Descriptor => false,
-        FieldOption::Unique => true,
-    }
+    definition::field_at(f, k).option == FieldOption::Unique
 }
 
 // N1 and N2 judge every unique field, A1 those that the format buffer names.
 fn is_judged(f: File, named: bool, format: &[u8], k: usize) -> bool
     ensures { result ≡ is_judged f named format.now k }
 {
-    if !is_unique(f, k) {
-        return false;
-    }
-    if !named {
-        return true;
-    }
-    is_named(f, format, k)
+    is_unique(f, k) && (!named || is_named(f, format, k))
 }
 
 // Whether another record of the file has the value in the field at a place, or an image that counts.
@@ -79,14 +56,13 @@ fn value_taken(
 ) -> bool
     ensures { result ≡ value_taken f part.now queue.now images.now count width user file isn k value.now }
 {
-    if search::elsewhere(f, part, k, isn, value) {
-        return true;
-    }
     let offset = records::field_offset(f, k);
-    images::image_has(queue, images, count, width, user, file, offset, value)
+    search::elsewhere(f, part, k, isn, value)
+        || images::image_has(queue, images, count, width, user, file, offset, value)
 }
 
 // Whether the field at a place is judged, and its value in the new record is taken.
+#[tactic(auto, using(lists::specs::Parts::part_least))]
 fn field_taken(
     f: File,
     part: &[u8],
@@ -108,8 +84,8 @@ fn field_taken(
         return false;
     }
     // The record may be shorter than the file's.
-    let start = slices::least(records::field_offset(f, k), content.len());
-    let end = start + slices::least(records::field_length(f, k), content.len() - start);
+    let start = records::field_offset(f, k).min(content.len());
+    let end = start + records::field_length(f, k).min(content.len() - start);
     value_taken(
         f,
         part,
@@ -126,6 +102,7 @@ fn field_taken(
 }
 
 // Whether the value of a field that is judged is taken.
+#[tactic(auto, using(lists::specs::Numbers::before_more, lists::specs::Numbers::before_none))]
 fn some_taken(
     f: File,
     part: &[u8],
@@ -142,20 +119,18 @@ fn some_taken(
 ) -> bool
     ensures { result ≡ some_taken f part.now queue.now images.now count width user file named format.now isn content.now }
 {
-    let n = definition::field_count(f);
-    let mut k = 0;
-    while k < n {
+    for k in 0..definition::field_count(f) {
         if field_taken(
             f, part, queue, images, count, width, user, file, named, format, isn, content, k,
         ) {
             return true;
         }
-        k += 1;
     }
     false
 }
 
 // Whether a unique value of the record that the caller makes at an ISN is taken. `named`: only the fields that the format buffer names.
+#[tactic(auto, unfolding(shares::specs::Chains::taken))]
 pub fn taken(
     call: Call,
     share: Share,

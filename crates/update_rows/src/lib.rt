@@ -20,11 +20,12 @@ fn replace(f: File, old: &[u8], format: &[u8], buffer: &[u8], content: &mut [u8]
     requires { length content.old ≡ length old.now }
     ensures { content.new ≡ write_fields f format.now buffer.now old.now }
 {
-    slices::copy(old, content);
+    content.copy_from_slice(old);
     fields::write_fields(f, format, buffer, content);
 }
 
 // Whether a unique value of the record that A1 makes, in stored form at the front of `scratch`, is taken.
+#[tactic(auto, using(store::proofs::Laws::shown_length))]
 fn taken_in(
     call: Call,
     width: usize,
@@ -81,6 +82,7 @@ fn value_taken(
     )
 }
 
+#[tactic(auto, using(change_rows::specs::Laws::change_there))]
 pub fn amendable(
     call: Call,
     most: usize,
@@ -95,14 +97,8 @@ pub fn amendable(
 ) -> Result<(), Response>
     ensures { result ≡ verdict (first_cause (rows_amended f part.now call share queue.now most images.now width format.now buffer.now)) }
 {
-    let storable = formats::storable(f, format, buffer);
-    if let Err(cause) = storable {
-        return Err(cause);
-    }
-    let allowed = change_rows::changeable(call, most, share, f, part, queue);
-    if let Err(cause) = allowed {
-        return Err(cause);
-    }
+    formats::storable(f, format, buffer)?;
+    change_rows::changeable(call, most, share, f, part, queue)?;
     if value_taken(call, width, share, f, part, queue, images, format, buffer) {
         return Err(Response::ValueTaken);
     }

@@ -10,6 +10,7 @@ use definition::File;
 use nucleus::Call;
 use shares::{Done, Share};
 
+#[tactic(auto, using(update_rows::specs::Laws::a1_cause_is, update_rows::specs::Laws::amend_there, amendment::specs::Laws::amended_record), unfolding(shares::specs::Chains::replaced))]
 pub fn a1(
     call: Call,
     most: usize,
@@ -28,10 +29,9 @@ pub fn a1(
     ensures queue_after { queue.new ≡ changed_queue (a1_cause f part.old call share queue.old images.old width most format.now buffer.now) f part.old call.isn call share queue.old clock }
     ensures images_after { images.new ≡ changed_images (a1_cause f part.old call share queue.old images.old width most format.now buffer.now) f part.old call.isn call share queue.old clock width images.old }
 {
-    let verdict = update_rows::amendable(
+    if let Err(cause) = update_rows::amendable(
         call, most, width, share, f, part, queue, images, format, buffer,
-    );
-    if let Err(cause) = verdict {
+    ) {
         return shares::refused(cause, share);
     }
     let held = keeping::keep_record(call, width, clock, share, f, part, queue, images, call.isn);

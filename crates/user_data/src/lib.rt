@@ -13,10 +13,8 @@ fn write_data(held: EtData, buffer: &mut [u8])
     requires { held.length ≤ length buffer.old }
     ensures { buffer.new ≡ re_buffer held buffer.old }
 {
-    let length = held.length as usize;
-    let n = slices::least(length, MAX_ET_DATA);
-    let bytes = held.bytes;
-    slices::copy(&bytes[..n], &mut buffer[..n]);
+    let n = usize::from(held.length).min(MAX_ET_DATA);
+    buffer[..n].copy_from_slice(&held.bytes[..n]);
 }
 
 // RE.
@@ -24,7 +22,7 @@ pub fn re(share: Share, buffer: &mut [u8]) -> Done
     ensures value { result ≡ re_done share buffer.old }
     ensures buffer_after { buffer.new ≡ re_after share buffer.old }
 {
-    let n = share.et_data.length as usize;
+    let n = usize::from(share.et_data.length);
     if buffer.len() < n {
         return shares::refused(Response::RecordLength, share);
     }

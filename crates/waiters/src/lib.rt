@@ -11,109 +11,77 @@ use nucleus::{Call, Command, MAX_USERS, WaitQueue};
 use removal::Removal;
 
 // Whether the user waits.
+#[tactic(auto, using(crate::specs::Laws::any_held))]
 pub fn in_line(line: WaitQueue, user: u8) -> bool
     ensures { result ≡ in_line line user }
 {
-    let places = line.places;
-    queue::held_by(&places, line.waiting, user) > 0
+    queue::held_by(&line.places, line.waiting, user) > 0
 }
 
 // The first who waits for the file and ISN.
 pub fn first_in_line(line: WaitQueue, file: u8, isn: u16) -> Option<(usize, Entry)>
     ensures { result ≡ first_in_line line file isn }
 {
-    let places = line.places;
-    queue::holder(&places, line.waiting, file, isn)
+    queue::holder(&line.places, line.waiting, file, isn)
 }
 
 fn by_l4(command: Command) -> bool
     ensures { result ≡ by_l4 command }
 {
-    match command {
-        Command::L4 => true,
-        _ => false,
-    }
+    command == Command::L4
 }
 
 // Whether a place in the line is the one that the call would get.
 fn same_place(command: Command, call: Call, e: Entry) -> bool
     ensures { result ≡ same_place command call e }
 {
-    if e.user != call.user {
-        return false;
-    }
-    if e.file != call.file {
-        return false;
-    }
-    if e.isn != call.isn {
-        return false;
-    }
-    if by_l4(command) {
-        return e.changed;
-    }
-    !e.changed
+    e.user == call.user && e.file == call.file && e.isn == call.isn && e.changed == by_l4(command)
 }
 
 fn has_place(command: Command, call: Call, places: &[u64], waiting: usize) -> bool
     ensures { result ≡ any (same_place command call) (entries places.now waiting) }
 {
-    let n = slices::least(waiting, places.len());
-    let mut i = 0;
-    while i < n {
-        let e = entries::unpack(places[i]);
-        if same_place(command, call, e) {
-            return true;
-        }
-        i += 1;
-    }
-    false
+    let n = waiting.min(places.len());
+    places[..n]
+        .iter()
+        .any(|word| same_place(command, call, entries::unpack(*word)))
 }
 
 // "The same command, option, file and ISN again while he waits keeps his place".
 pub fn keeps_place(command: Command, call: Call, line: WaitQueue) -> bool
     ensures { result ≡ keeps_place command call line }
 {
-    if !options::waits(command, call.option) {
-        return false;
-    }
-    let places = line.places;
-    has_place(command, call, &places, line.waiting)
+    options::waits(command, call.option) && has_place(command, call, &line.places, line.waiting)
 }
 
 // The line without the user.
+#[tactic(auto, unfolding(nucleus::specs::Waiters::left_line))]
 pub fn leave(line: WaitQueue, user: u8) -> WaitQueue
     ensures { result ≡ left_line user line }
 {
     let mut places = line.places;
-    let mut images: [u8; 1] = [0; 1];
-    let waiting = removal::remove(
-        &mut places,
-        &mut images[..0],
-        line.waiting,
-        0,
-        Removal::All { user },
-    );
+    let waiting = removal::remove(&mut places, &mut [], line.waiting, 0, Removal::All { user });
     WaitQueue { places, waiting }
 }
 
 // The line that a call finds: whoever makes another call than the one that he waits by leaves it.
+#[tactic(auto, unfolding(nucleus::specs::Waiters::line_left_by))]
 pub fn leave_by(command: Command, call: Call, line: WaitQueue) -> WaitQueue
     ensures { result ≡ line_left_by command call line }
 {
     if keeps_place(command, call, line) {
-        return line;
+        line
+    } else {
+        leave(line, call.user)
     }
-    leave(line, call.user)
 }
 
 // The line with the caller at its end, unless he is in it.
+#[tactic(auto, unfolding(nucleus::specs::Waiters::joined_line))]
 pub fn join(command: Command, call: Call, line: WaitQueue) -> WaitQueue
     ensures { result ≡ joined_line command call line }
 {
-    if in_line(line, call.user) {
-        return line;
-    }
-    if line.waiting >= MAX_USERS {
+    if in_line(line, call.user) || line.waiting >= MAX_USERS {
         return line;
     }
     let e = Entry {

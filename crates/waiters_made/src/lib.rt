@@ -13,11 +13,8 @@ use nucleus::{MAX_USERS, User, WaitQueue};
 fn waits_well(w: Entry, places: &[u64], waiting: usize, queue: &[u64], count: usize) -> bool
     ensures { result ≡ waits_well (entries places.now waiting) (entries queue.now count) w }
 {
-    if queue::held_by(places, waiting, w.user) != 1 {
-        return false;
-    }
-    let found = queue::holder(queue, count, w.file, w.isn);
-    hold_rows::other_holds(found, w.user)
+    queue::held_by(places, waiting, w.user) == 1
+        && hold_rows::other_holds(queue::holder(queue, count, w.file, w.isn), w.user)
 }
 
 // Users are looked at in their places: a call that took them would copy them all at each waiter.
@@ -30,20 +27,17 @@ fn waiters_fit(
 ) -> bool
     ensures { result ≡ all (waiter_fits users (entries places.now waiting) (entries queue.now count)) (entries places.now waiting) }
 {
-    let n = slices::least(waiting, places.len());
-    let mut i = 0;
-    while i < n {
-        let w = entries::unpack(places[i]);
-        i += 1;
-        let user = w.user as usize;
+    let n = waiting.min(places.len());
+    for word in &places[..n] {
+        let w = entries::unpack(*word);
+        let user = usize::from(w.user);
         if user < 1 {
             return false;
         }
         if MAX_USERS < user {
             return false;
         }
-        let u = users[user - 1];
-        if !u.session {
+        if !users[user - 1].session {
             return false;
         }
         if !waits_well(w, places, waiting, queue, count) {
@@ -57,9 +51,5 @@ fn waiters_fit(
 pub fn waiters_made(users: [User; MAX_USERS], line: WaitQueue, queue: &[u64], count: usize) -> bool
     ensures { result ≡ waiters_fit users line (entries queue.now count) }
 {
-    if MAX_USERS < line.waiting {
-        return false;
-    }
-    let places = line.places;
-    waiters_fit(&places, line.waiting, queue, count, users)
+    line.waiting <= MAX_USERS && waiters_fit(&line.places, line.waiting, queue, count, users)
 }

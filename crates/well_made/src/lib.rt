@@ -7,12 +7,6 @@ ghost use Rattle.nucleus.specs.WellMade.{user_made, data_made};
 
 use nucleus::{EtData, MAX_ET_DATA, MAX_USERS, User};
 
-fn wide(x: u8) -> usize
-    ensures { result ≡ x }
-{
-    x as usize
-}
-
 fn user_made(u: User, clock: u32) -> bool
     ensures { result ≡ user_made clock u }
 {
@@ -20,37 +14,20 @@ fn user_made(u: User, clock: u32) -> bool
     if !t.active {
         return !t.ready;
     }
-    if !u.session {
-        return false;
-    }
-    t.begun <= clock
+    u.session && t.begun <= clock
 }
 
 // Whoever is in a transaction has a session, and it did not begin after the clock; whoever is in none is not ready.
 pub fn users_made(users: [User; MAX_USERS], clock: u32) -> bool
     ensures { result ≡ all (user_made clock) users }
 {
-    let mut i = 0;
-    while i < MAX_USERS {
-        let u = users[i];
-        if !user_made(u, clock) {
-            return false;
-        }
-        i += 1;
-    }
-    true
+    users.iter().all(|u| user_made(*u, clock))
 }
 
 pub fn data_made(et_data: [EtData; MAX_USERS]) -> bool
     ensures { result ≡ all data_made et_data }
 {
-    let mut i = 0;
-    while i < MAX_USERS {
-        let n = wide(et_data[i].length);
-        if MAX_ET_DATA < n {
-            return false;
-        }
-        i += 1;
-    }
-    true
+    et_data
+        .iter()
+        .all(|data| usize::from(data.length) <= MAX_ET_DATA)
 }

@@ -14,7 +14,7 @@ pub returns-then-user : goal.returns-then-user
 returns-then-user c kept assigned =
     let a = c.args in
     marked a.command a.call a.d a.clock a.standing kept assigned a.store.now a.queue.now a.images.now c.user_at-user.result c.user_at-user.ensures _ c.if-user.true
-    (c.with_user-told.ensures ∙ ap (set a.standing.users (a.call.user - 1)) c.with_overdue-cleared.ensures)
+    (c.with_user-standing.ensures ∙ ap (set a.standing.users (a.call.user - 1)) c.with_overdue-cleared.ensures)
 
 pub returns-then-session_in_transaction : goal.returns-then-session_in_transaction
 returns-then-session_in_transaction c kept assigned =
@@ -29,4 +29,4 @@ returns c kept assigned =
     judged a.command a.call a.d a.clock a.standing kept assigned a.store.now a.queue.now a.images.now c.user_at-user.result c.user_at-user.ensures c.if-user.false _ _
     (sym c.session_in_transaction.ensures ∙ c.if-session_in_transaction.false)
     (c.judge-verdict.ensures ∙ ap (λ x. verdict (session_cause a.command x)) c.opened-session.ensures)
-    (c.with_user-people.ensures ∙ ap (set a.standing.users (a.call.user - 1)) c.opened-session.ensures)
+    (c.with_user-standing-2.ensures ∙ ap (set a.standing.users (a.call.user - 1)) c.opened-session.ensures)

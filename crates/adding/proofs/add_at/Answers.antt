@@ -16,10 +16,10 @@ use Rattle.adding.proofs.add_at.Goals as goal
 use Rattle.adding.proofs.add_at.Goals.{After-new_record-n, After-taken, In-Err, In_default}
 
 no_room : (c : In-Err) → let a = c.args in first_cause (rows_room a.call a.share a.queue.now a.most a.isn) ≡ Some c.in-Err.cause
-no_room c = verdict_refused _ _ (sym c.room-room.ensures ∙ c.in-Err.is)
+no_room c = verdict_refused _ _ (sym c.room.ensures ∙ c.in-Err.is)
 
 has_room : (c : In_default) → let a = c.args in first_cause (rows_room a.call a.share a.queue.now a.most a.isn) ≡ None
-has_room c = verdict_passed _ (sym c.room-room.ensures ∙ c.in_default.is)
+has_room c = verdict_passed _ (sym c.room.ensures ∙ c.in_default.is)
 
 -- what the scratch begins with
 made_is : (c : After-taken) → let a = c.args in take c.new_record-n.result c.new_record-n.new.scratch ≡ added a.f a.part.now a.format.now a.buffer.now a.isn
@@ -42,9 +42,6 @@ returns-in-Err c =
     let a = c.args in
     let e = no_room_left a.f a.part.now a.call a.share a.queue.now a.images.now a.width a.most a.format.now a.buffer.now a.isn _ (no_room (goal.at.returns-in-Err c).In-Err) in
     rw e (record { value = c.refused.ensures; part_after = refl; queue_after = refl; images_after = refl })
-
-pub slice_bounds-scratch-end : goal.slice_bounds-scratch-end
-slice_bounds-scratch-end c = made_within (goal.at.slice_bounds-scratch-end c).After-new_record-n
 
 pub slice_bounds-made-end : goal.slice_bounds-made-end
 slice_bounds-made-end c = sym (length-take-le _ _ (made_within (goal.at.slice_bounds-made-end c).After-new_record-n))

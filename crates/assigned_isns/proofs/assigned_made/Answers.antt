@@ -1,41 +1,22 @@
--- `assigned_made` meets its contract. The loop's invariant: what is judged in all is judged from here on.
--- Assumes nothing.
-use Prim.Native.Nat.{ℕ, ◌+◌, ◌<◌}
-use mathlib.Core.Path.{◌≡◌, refl, sym, ◌∙◌}
-use mathlib.Core.Bool.{Bool, true, false, ◌&&◌}
-use mathlib.Core.List.{List, [], ◌∷◌}
-use lib.Dec.{leb}
-use lib.ListN.{length, drop, get_or}
-use borrow.Author.Tests.{le-leb, lt-leb}
-use Rattle.lists.specs.Rest.{drop_more}
-use Rattle.definition.specs.Table.{beyond, files_of, file_count}
-use Rattle.definition.specs.Shape.{file_next, no_file_left}
-use Rattle.definition.proofs.Known.{definition_known}
+-- `assigned_made` meets its contract: each file in use beside its mark. Assumes nothing.
+use Rattle.std.proofs.Common.{ℕ, ◌≡◌, refl, ap, ◌∙◌, ◌&&◌, List, [], ◌∷◌, take, rules, tests}
+use Rattle.std.specs.Prelude.{leb}
+use Rattle.std.specs.List.{list_all, zip}
+use Rattle.std.proofs.lemmas.Iterator.{YieldsList-from_slice, YieldsList-from_zip}
+use Rattle.std.proofs.lemmas.Iterator.Search.{all_from_yields_List}
+use Rattle.definition.specs.declared.File.{File}
 use Rattle.nucleus.specs.WellMade.{assigned_made}
-use native.Mathlib.Omega.{arith}
-use borrow.Author.Rules.{rules}
 use Rattle.assigned_isns.proofs.assigned_made.Goals as goal
-use Rattle.assigned_isns.proofs.assigned_made.Goals.{Start}
 
--- no file is left
-assigned_none : (isns : List ℕ) → assigned_made isns [] ≡ true
-assigned_none [] = refl
-assigned_none (isn ∷ isns) = refl
-
--- one turn, at the i-th file, whose test has the outcome b
-turn : (c : Start) (i : ℕ) (b : Bool) → i < file_count c.args.d → leb (get_or c.args.assigned i 0) (get_or c.args.d.files i beyond).max_isn ≡ b
-    → assigned_made (drop i c.args.assigned) (drop i (files_of c.args.d)) ≡ (b && assigned_made (drop (i + 1) c.args.assigned) (drop (i + 1) (files_of c.args.d)))
-turn c i b h t =
-    let inside : i < length c.args.assigned = search rules in
-    rw (file_next c.args.d (definition_known _ _ c.well_formed.0) i h, drop_more c.args.assigned i 0 inside, t)
-
-pub returns-then-max_isn-isn : goal.returns-then-max_isn-isn
-returns-then-max_isn-isn c = sym (c.loop-i.invariant.1 ∙ turn (goal.at.returns-then-max_isn-isn c).Start c.loop-i.i false (omega arith) (lt-leb _ _ c.if-max_isn-isn.true))
-
-pub loop-i-preserved : goal.loop-i-preserved
-loop-i-preserved c = (omega arith, c.loop-i.invariant.1 ∙ turn (goal.at.loop-i-preserved c).Start c.loop-i.i true (omega arith) (le-leb _ _ c.if-max_isn-isn.false))
+-- each file beside its mark
+side_by_side : (files : List File) (isns : List ℕ) → list_all (λ p. leb p.1 p.0.max_isn) (zip files isns) ≡ assigned_made isns files
+side_by_side [] isns = refl
+side_by_side (f ∷ files) [] = refl
+side_by_side (f ∷ files) (isn ∷ isns) = ap (λ b. leb isn f.max_isn && b) (side_by_side files isns)
 
 pub returns : goal.returns
 returns c =
-    let a = c.args in
-    sym (c.loop-i.invariant.1 ∙ rw (no_file_left a.d c.loop-i.i (omega arith)) (assigned_none (drop c.loop-i.i a.assigned)))
+    let files = c.args.d.files in
+    let isns = c.args.assigned in
+    let n = c.file_count-n.result in
+    all_from_yields_List (λ p. leb p.1 p.0.max_isn) c.all.new.self _ c.all.result c.all.ensures.ran (YieldsList-from_zip (YieldsList-from_slice (take n files) cc) (YieldsList-from_slice isns cc)) (λ x b q k. search (rules, tests)) ∙ side_by_side (take n files) isns ∙ ap (λ m. assigned_made isns (take m files)) c.file_count-n.ensures

@@ -20,16 +20,16 @@ turn : (c : After-is_free) → let a = c.args in
     ≡ cond c.is_free.result (Some c.loop-isn.isn) (first_of (free_at a.room a.size a.part.now a.file (entries a.queue.now a.count)) (numbers (a.end - (c.loop-isn.isn + 1)) (c.loop-isn.isn + 1)))
 turn c =
     let a = c.args in
-    c.loop-isn.invariant.3 ∙ rw (before_more c.loop-isn.isn a.end c.loop-isn-test.true, free_here a.room a.size a.part.now a.file (entries a.queue.now a.count) c.loop-isn.isn c.loop-isn.at c.loop-isn.invariant.0 c.loop-isn.invariant.2, ← c.is_free.ensures)
+    c.loop-isn.invariant.2 ∙ rw (before_more c.loop-isn.isn a.end c.loop-isn-test.true, free_here a.room a.size a.part.now a.file (entries a.queue.now a.count) c.loop-isn.isn c.loop-isn.at c.loop-isn.invariant.0 c.loop-isn.invariant.1, ← c.is_free.ensures)
 
 pub overflow_mul-at : goal.overflow_mul-at
 overflow_mul-at c = omega (arith, offset_most c.args.from c.args.size c.requires.from_bound c.requires.size_bound)
 
 pub loop-isn-init : goal.loop-isn-init
-loop-isn-init c = (omega arith, omega arith, refl, refl)
+loop-isn-init c = (omega arith, refl, refl)
 
 pub overflow_add-next : goal.overflow_add-next
-overflow_add-next c = omega (arith, c.loop-isn.invariant.2, c.requires.size_bound, offset_most c.loop-isn.isn c.args.size c.loop-isn.invariant.1 c.requires.size_bound)
+overflow_add-next c = omega (arith, c.loop-isn.invariant.1, c.requires.size_bound, offset_most c.loop-isn.isn c.args.size (omega arith) c.requires.size_bound)
 
 pub is_free-requires : goal.is_free-requires
 is_free-requires c = record { room_in_bounds = omega arith; at_lt_next = omega arith; isn_bound = omega arith }
@@ -40,9 +40,9 @@ returns-then-is_free c = sym (turn (goal.at.returns-then-is_free c).After-is_fre
 pub loop-isn-preserved : goal.loop-isn-preserved
 loop-isn-preserved c =
     let a = c.args in
-    (omega arith, omega arith, rw c.loop-isn.invariant.2 (slot_next a.size c.loop-isn.isn c.loop-isn.invariant.0), turn (goal.at.loop-isn-preserved c).After-is_free ∙ rw c.if-is_free.false)
+    (omega arith, rw c.loop-isn.invariant.1 (slot_next a.size c.loop-isn.isn c.loop-isn.invariant.0), turn (goal.at.loop-isn-preserved c).After-is_free ∙ rw c.if-is_free.false)
 
 pub returns : goal.returns
 returns c =
     let a = c.args in
-    sym (c.loop-isn.invariant.3 ∙ rw (before_none c.loop-isn.isn a.end c.loop-isn-test.false))
+    sym (c.loop-isn.invariant.2 ∙ rw (before_none c.loop-isn.isn a.end c.loop-isn-test.false))

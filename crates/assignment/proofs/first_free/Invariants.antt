@@ -9,7 +9,4 @@ use Rattle.assignment.specs.Assignment.{free_at}
 use Rattle.assignment.proofs.first_free.Given as goal
 
 abbrev pub invariant-loop-isn : goal.invariant-loop-isn
-invariant-loop-isn l = (1 ≤ l.isn) × (l.isn ≤ 65536) × (l.at ≡ (l.isn - 1) * l.size) × (first_of (free_at l.room l.size l.part l.file (entries l.queue l.count)) (numbers (l.end - l.from) l.from) ≡ first_of (free_at l.room l.size l.part l.file (entries l.queue l.count)) (numbers (l.end - l.isn) l.isn))
-
-abbrev pub decreases-loop-isn : goal.decreases-loop-isn
-decreases-loop-isn l = l.end - l.isn
+invariant-loop-isn l = (1 ≤ l.isn) × (l.at ≡ (l.isn - 1) * l.size) × (first_of (free_at l.room l.size l.part l.file (entries l.queue l.count)) (numbers (l.end - l.from) l.from) ≡ first_of (free_at l.room l.size l.part l.file (entries l.queue l.count)) (numbers (l.end - l.isn) l.isn))

@@ -21,12 +21,11 @@ returns-then-n-eq0 c = rw (eq-eqb _ _ c.if-n-eq0.true)
 pub slice_bounds-bytes-end : goal.slice_bounds-bytes-end
 slice_bounds-bytes-end c = room (goal.at.slice_bounds-bytes-end c).Start
 
-pub slice_bounds-copy-end : goal.slice_bounds-copy-end
-slice_bounds-copy-end c = sym (length-take-le _ _ (room (goal.at.slice_bounds-copy-end c).Start))
+pub slice_bounds-copy_from_slice-end : goal.slice_bounds-copy_from_slice-end
+slice_bounds-copy_from_slice-end c = sym (length-take-le _ _ (room (goal.at.slice_bounds-copy_from_slice-end c).Start))
 
 pub returns : goal.returns
 returns c =
     let v = c.args.buffer.now in
     let b = c.args.held.bytes in
-    let whole = copied_whole v (take (length v) b) (sym (length-take-le (length v) b (room (goal.at.returns c).Start))) in
-    rw (ne_eqb _ _ c.if-n-eq0.false, c.copy.ensures ∙ whole, sets-eq v b 0 (omega (arith, room (goal.at.returns c).Start)), zero-add)
+    rw (ne_eqb _ _ c.if-n-eq0.false, c.copy_from_slice.ensures.after, sets-eq v b 0 (omega (arith, room (goal.at.returns c).Start)), zero-add)

@@ -17,7 +17,7 @@ returns c =
     let short = le-ltb _ _ c.if-buffer-gt-MAX_ET_DATA.false in
     let gone = c.let_go-count.ensures in
     record {
-      value = rw short (rw (c.data_brought-et_data.ensures, c.ended-user.ensures, c.counted.ensures, c.next_sequence-sequence.ensures, gone.value) at c.good.ensures);
+      value = rw short (rw (c.data_brought.ensures, c.ended.ensures, c.counted.ensures, c.next_sequence-sequence.ensures, gone.value) at c.good.ensures);
       queue_after = rw short gone.queue_after;
       images_after = rw short gone.images_after;
     }

@@ -29,16 +29,11 @@ pub loop-i-preserved-then-number-lt-NUMBERS : goal.loop-i-preserved-then-number-
 loop-i-preserved-then-number-lt-NUMBERS c =
     let i = c.loop-i.i in
     let d = c.args.d in
-    (omega arith, rw (c.loop-i.invariant.1, c.wide-number.ensures) (highest_more _ (drop i (files_of d)) ∙ sym (ap highest_in (turn (goal.at.loop-i-preserved-then-number-lt-NUMBERS c).Start i (omega arith) (omega arith)))))
+    (omega arith, rw (c.loop-i.invariant.1, c.from-number.ensures) (highest_more _ (drop i (files_of d)) ∙ sym (ap highest_in (turn (goal.at.loop-i-preserved-then-number-lt-NUMBERS c).Start i (omega arith) (omega arith)))))
 
 pub loop-i-preserved : goal.loop-i-preserved
 loop-i-preserved c =
     let i = c.loop-i.i in
     let d = c.args.d in
-    let past : length (highest_in (drop i (files_of d))) ≤ (get_or d.files (i - 1) beyond).number = omega (arith, length_highest (drop i (files_of d)), c.wide-number.ensures) in
+    let past : length (highest_in (drop i (files_of d))) ≤ (get_or d.files (i - 1) beyond).number = omega (arith, length_highest (drop i (files_of d)), c.from-number.ensures) in
     (omega arith, c.loop-i.invariant.1 ∙ sym (set_out (highest_in (drop i (files_of d))) _ (get_or d.files (i - 1) beyond).max_isn past) ∙ highest_more _ (drop i (files_of d)) ∙ sym (ap highest_in (turn (goal.at.loop-i-preserved c).Start i (omega arith) (omega arith))))
-
-pub returns : goal.returns
-returns c =
-    let end : c.loop-i.i ≡ 0 = omega arith in
-    c.loop-i.invariant.1 ∙ ap (λ i. highest_in (drop i (files_of c.args.d))) end

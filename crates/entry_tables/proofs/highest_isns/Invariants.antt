@@ -9,6 +9,3 @@ use Rattle.entry_tables.proofs.highest_isns.Given as goal
 
 abbrev pub invariant-loop-i : goal.invariant-loop-i
 invariant-loop-i l = (l.i ≤ file_count l.d) × (l.table ≡ highest_in (drop l.i (files_of l.d)))
-
-abbrev pub decreases-loop-i : goal.decreases-loop-i
-decreases-loop-i l = l.i

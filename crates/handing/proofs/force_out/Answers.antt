@@ -23,5 +23,5 @@ returns c kept assigned =
     (c.hand_over.ensures kept assigned c.back_out-count.new.images)
     (picked_go a.queue.now _ (replicate max_capacity 0) a.standing.count _ (All a.user) refl c.pick_out-n.ensures.value c.pick_out-n.ensures.out_after) c.image_length-width.ensures
     o.value o.store_after o.queue_after o.images_after
-    (c.with_user-people.ensures ∙ ap (set a.standing.users (a.user - 1)) (c.ended-out.ensures ∙ ap ended c.user_at-before.ensures))
-    c.leave-others.ensures
+    (c.with_user.ensures ∙ ap (set a.standing.users (a.user - 1)) (c.ended-out.ensures ∙ ap ended c.user_at.ensures))
+    c.leave.ensures

@@ -14,14 +14,14 @@ use Rattle.handing.proofs.record_there.Goals as goal
 pub returns-in_default : goal.returns-in_default
 returns-in_default c =
     let a = c.args in
-    sym (there_nowhere a.d a.file a.isn a.store.now (sym c.place-found.ensures ∙ c.in_default.is))
+    sym (there_nowhere a.d a.file a.isn a.store.now (sym c.place.ensures ∙ c.in_default.is))
 
 pub returns : goal.returns
 returns c =
     let a = c.args in
-    let found : place a.d a.file ≡ Some c.in-Some.i = sym c.place-found.ensures ∙ c.in-Some.is in
+    let found : place a.d a.file ≡ Some c.in-Some.i = sym c.place.ensures ∙ c.in-Some.is in
     let inside = (place_found a.d (definition_known _ _ c.well_formed.0) a.file c.in-Some.i found).0 in
     c.has_record.ensures
-    ∙ there_in a.d a.file a.isn a.store.now c.in-Some.i c.file_at-f.result c.least-start.result c.least.result found
-    (c.file_at-f.ensures ∙ file_or_none_at a.d c.in-Some.i inside) (c.least-start.ensures ∙ ap (λ at. min at (length a.store.now)) c.file_offset.ensures)
-    (c.least.ensures ∙ ap (λ n. min n (length a.store.now - c.least-start.result)) c.file_size.ensures)
+    ∙ there_in a.d a.file a.isn a.store.now c.in-Some.i c.file_at-f.result c.min-start.result c.min.result found
+    (c.file_at-f.ensures ∙ file_or_none_at a.d c.in-Some.i inside) (c.min-start.ensures ∙ ap (λ at. min at (length a.store.now)) c.file_offset.ensures)
+    (c.min.ensures ∙ ap (λ n. min n (length a.store.now - c.min-start.result)) c.file_size.ensures)

@@ -5,9 +5,6 @@ use Rattle.nucleus.specs.Nucleus.{max_users}
 use Rattle.overdue.proofs.Turns.{Pending}
 use Rattle.overdue.proofs.pass.Given as goal
 
-abbrev pub invariant-loop-i : goal.invariant-loop-i
-invariant-loop-i l =
-    Pending l.d l.clock l.initial.store l.initial.queue l.initial.images l.initial.after l.store l.queue l.images l.after l.i
-
-abbrev pub decreases-loop-i : goal.decreases-loop-i
-decreases-loop-i l = max_users - l.i
+abbrev pub invariant-loop-at : goal.invariant-loop-at
+invariant-loop-at l =
+    Pending l.d l.clock l.initial.store l.initial.queue l.initial.images l.initial.after l.store l.queue l.images l.after l.at

@@ -15,4 +15,4 @@ returns c kept assigned =
     let left = c.force_out-left.result in
     ap (change_user a.user (with_overdue true)) (c.force_out-left.ensures kept assigned)
     ∙ changed a.d a.clock left kept assigned _ _ _ a.user (with_overdue true) _
-    (c.with_user-users.ensures ∙ ap (set left.users (a.user - 1)) (c.with_overdue-marked.ensures ∙ ap (with_overdue true) c.user_at.ensures))
+    (c.with_user-left.ensures ∙ ap (set left.users (a.user - 1)) (c.with_overdue-marked.ensures ∙ ap (with_overdue true) c.user_at.ensures))

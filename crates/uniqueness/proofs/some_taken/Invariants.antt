@@ -9,7 +9,4 @@ use Rattle.uniqueness.specs.Uniqueness.{field_taken, some_taken}
 use Rattle.uniqueness.proofs.some_taken.Given as goal
 
 abbrev pub invariant-loop-k : goal.invariant-loop-k
-invariant-loop-k l = (l.n ≡ field_count l.f) × (some_taken l.f l.part l.queue l.images l.count l.width l.user l.file l.named l.format l.isn l.content ≡ any (field_taken l.f l.part l.queue l.images l.count l.width l.user l.file l.named l.format l.isn l.content) (numbers (field_count l.f - l.k) l.k))
-
-abbrev pub decreases-loop-k : goal.decreases-loop-k
-decreases-loop-k l = l.n - l.k
+invariant-loop-k l = some_taken l.f l.part l.queue l.images l.count l.width l.user l.file l.named l.format l.isn l.content ≡ any (field_taken l.f l.part l.queue l.images l.count l.width l.user l.file l.named l.format l.isn l.content) (numbers (field_count l.f - l.k) l.k)

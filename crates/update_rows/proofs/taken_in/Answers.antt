@@ -5,7 +5,7 @@ use Prim.Native.Nat.{ℕ, ◌≤◌}
 use native.Mathlib.Omega.{arith}
 use mathlib.Core.Path.{◌≡◌, sym, ap, ◌∙◌}
 use mathlib.Core.List.{List, ◌++◌}
-use lib.ListN.{length, take, drop, length-append}
+use lib.ListN.{length, take, drop}
 use lib.Seq.{length-take-le, take_at}
 use Rattle.store.proofs.Laws.{shown_record, shown_length}
 use Rattle.shares.specs.Chains.{replaced}
@@ -44,17 +44,11 @@ made_is c =
 front : (c : After-replace) → take (size_2 c) (made c ++ drop (size_2 c) c.args.scratch.now) ≡ made c
 front c = take_at (made c) _ _ (made_size c)
 
-pub slice_bounds-replace-end : goal.slice_bounds-replace-end
-slice_bounds-replace-end c = room (goal.at.slice_bounds-replace-end c).After-record_part-old
-
 pub slice_bounds-replace-end-2 : goal.slice_bounds-replace-end-2
 slice_bounds-replace-end-2 c = sym (lent (goal.at.slice_bounds-replace-end-2 c).After-record_part-old)
 
 pub replace-requires : goal.replace-requires
 replace-requires c = lent (goal.at.replace-requires c).After-record_part-old
-
-pub slice_bounds-content-end : goal.slice_bounds-content-end
-slice_bounds-content-end c = omega (arith, made_size (goal.at.slice_bounds-content-end c).After-replace, length-append (made (goal.at.slice_bounds-content-end c).After-replace) (drop (size (goal.at.slice_bounds-content-end c).After-record_part-old) c.args.scratch.now))
 
 pub slice_bounds-content-end-2 : goal.slice_bounds-content-end-2
 slice_bounds-content-end-2 c = sym (ap length (front (goal.at.slice_bounds-content-end-2 c).After-replace) ∙ made_size (goal.at.slice_bounds-content-end-2 c).After-replace)
