@@ -94,8 +94,7 @@ fn ri(
         ≡ performed call most clock share d store.old queue.old images.old format.now buffer.old Ri }
 {
     if call.isn == 0 {
-        let width = layout::image_length(d);
-        return releasing::ri(call, share, queue, images, width);
+        return releasing::ri(call, share, queue, images, layout::image_length(d));
     }
     in_file(
         Command::Ri,
@@ -134,14 +133,16 @@ fn perform(
         ≡ performed call most clock share d store.old queue.old images.old format.now buffer.old command }
 {
     match command {
-        Command::Et => {
-            let width = layout::image_length(d);
-            ending::et(call, share, queue, images, width, buffer)
-        }
-        Command::Bt => {
-            let width = layout::image_length(d);
-            backing_out::bt(call, d, width, share, store, queue, images)
-        }
+        Command::Et => ending::et(call, share, queue, images, layout::image_length(d), buffer),
+        Command::Bt => backing_out::bt(
+            call,
+            d,
+            layout::image_length(d),
+            share,
+            store,
+            queue,
+            images,
+        ),
         Command::Re => user_data::re(share, buffer),
         Command::Op => session_commands::op(call, share),
         Command::Cl => session_commands::cl(share),
@@ -179,22 +180,15 @@ fn refused(cause: Response, state: State) -> Outcome
 fn assigned_in(assigned: [u16; MAX_FILES], found: Option<usize>) -> u16
     ensures { result ≡ assigned_in assigned found }
 {
-    let Some(i) = found else {
-        return 0;
-    };
-    if i < MAX_FILES {
-        return assigned[i];
-    }
-    0
+    found.and_then(|i| assigned.get(i)).copied().unwrap_or(0)
 }
 
 fn assigned_with(mut assigned: [u16; MAX_FILES], found: Option<usize>, isn: u16) -> [u16; MAX_FILES]
     ensures { result ≡ assigned_with assigned found isn }
 {
-    let Some(i) = found else {
-        return assigned;
-    };
-    if i < MAX_FILES {
+    if let Some(i) = found
+        && i < MAX_FILES
+    {
         assigned[i] = isn;
     }
     assigned
@@ -219,18 +213,14 @@ fn serve(
         ≡ perform (request capacity command call format.now buffer.old) (nucleus state store.old queue.old images.old) }
 {
     let d = state.definition;
-    let at = (call.user - 1) as usize;
+    let at = usize::from(call.user - 1);
     let found = layout::place(d, call.file);
-    let assigned = state.last_assigned;
-    let user = state.users[at];
-    let et_data = state.et_data[at];
-    let line = state.wait_queue;
     let share = Share {
-        user,
-        et_data,
-        last_assigned: assigned_in(assigned, found),
+        user: state.users[at],
+        et_data: state.et_data[at],
+        last_assigned: assigned_in(state.last_assigned, found),
         count: state.count,
-        waits: waiters::in_line(line, call.user),
+        waits: waiters::in_line(state.wait_queue, call.user),
     };
     let done = perform(
         command,
@@ -247,15 +237,14 @@ fn serve(
         buffer,
     );
     let after = done.share;
-    let left_user = after.user;
-    let left_data = after.et_data;
-    let left_assigned = assigned_with(assigned, found, after.last_assigned);
-    state.users[at] = left_user;
-    state.et_data[at] = left_data;
-    state.last_assigned = left_assigned;
+    state.users[at] = after.user;
+    state.et_data[at] = after.et_data;
+    state.last_assigned = assigned_with(state.last_assigned, found, after.last_assigned);
     state.count = after.count;
-    let answer = done.answer;
-    Outcome { answer, state }
+    Outcome {
+        answer: done.answer,
+        state,
+    }
 }
 
 // A command past 212, and the line after it.
@@ -278,25 +267,21 @@ fn serve_lined(
 {
     let mut words = [0u64; MAX_CAPACITY];
     let n = settling::let_go(command, call, queue, state.count, &mut words);
-    let outcome = serve(
+    let mut outcome = serve(
         command, state, capacity, call, store, queue, images, format, buffer,
     );
-    let answer = outcome.answer;
-    let mut after = outcome.state;
-    let d = after.definition;
+    let after = outcome.state;
     let users = after.users;
-    let line = after.wait_queue;
     let standing = Standing {
         users,
         count: after.count,
-        wait_queue: line,
+        wait_queue: after.wait_queue,
     };
-    let cause = answer.response;
     let left = settling::settle(
         command,
         call,
-        cause,
-        d,
+        outcome.answer.response,
+        after.definition,
         after.clock,
         standing,
         &words,
@@ -305,14 +290,10 @@ fn serve_lined(
         queue,
     );
     let left_users = left.users;
-    let left_line = left.wait_queue;
-    after.users = left_users;
-    after.count = left.count;
-    after.wait_queue = left_line;
-    Outcome {
-        answer,
-        state: after,
-    }
+    outcome.state.users = left_users;
+    outcome.state.count = left.count;
+    outcome.state.wait_queue = left.wait_queue;
+    outcome
 }
 
 // One call, for any state, capacity, call and buffers.
@@ -329,27 +310,23 @@ pub fn step(
     ensures { resulting result.answer (nucleus result.state store.new queue.new images.new) buffer.new
         ≡ step capacity call format.now buffer.old (nucleus state store.old queue.old images.old) }
 {
-    let usable = usability::usable(state, capacity, store, queue, images);
-    if let Err(cause) = usable {
+    if let Err(cause) = usability::usable(state, capacity, store, queue, images) {
         return refused(cause, state);
     }
-    let understood = understanding::understand(call);
-    let command = match understood {
+    let command = match understanding::understand(call) {
         Ok(command) => command,
         Err(cause) => return refused(cause, state),
     };
-    let d = state.definition;
     let users = state.users;
-    let line = state.wait_queue;
     let standing = Standing {
         users,
         count: state.count,
-        wait_queue: line,
+        wait_queue: state.wait_queue,
     };
     let admitted = admission::admit(
         command,
         call,
-        d,
+        state.definition,
         state.clock,
         standing,
         store,
@@ -357,14 +334,12 @@ pub fn step(
         images,
     );
     let left = admitted.standing;
-    let people = left.users;
-    let waiters = left.wait_queue;
     state.clock = admitted.clock;
-    state.users = people;
+    let left_users = left.users;
+    state.users = left_users;
     state.count = left.count;
-    state.wait_queue = waiters;
-    let verdict = admitted.verdict;
-    if let Err(cause) = verdict {
+    state.wait_queue = left.wait_queue;
+    if let Err(cause) = admitted.verdict {
         return refused(cause, state);
     }
     serve_lined(

@@ -27,6 +27,7 @@ fn no_place() -> Place
 }
 
 // The record of an ISN in its file's part, which begins at `start` in the store.
+#[tactic(auto, using(store::proofs::Laws::record_inside))]
 fn stored_place(f: File, start: usize, part: &[u8], isn: u16) -> Place
     requires { start + length part.now ≤ 18446744073709551615 }
     ensures { result ≡ cond (has_record f part.now isn) (in_store (start + (slot_offset f isn + 1)) (record_length f)) no_place }
@@ -56,6 +57,7 @@ fn imaged_place(f: File, images: &[u8], width: usize, i: usize) -> Place
     }
 }
 
+#[tactic(auto, unfolding(committed::specs::Committed::version_place))]
 fn version_place(
     f: File,
     start: usize,
@@ -88,15 +90,11 @@ fn place_found(
     requires { store_size d ≤ length store.now }
     ensures { result ≡ place_found d count file isn store.now queue.now images.now (place d file) }
 {
-    let found = layout::place(d, file);
-    let Some(i) = found else {
+    let Some(i) = layout::place(d, file) else {
         return no_place();
     };
     let f = definition::file_at(d, i);
-    if isn < 1 {
-        return no_place();
-    }
-    if f.max_isn < isn {
+    if !(1..=f.max_isn).contains(&isn) {
         return no_place();
     }
     let version = committed::committed_version(queue, count, file, isn);
@@ -118,12 +116,18 @@ pub fn committed_place(
 ) -> Place
     ensures { result ≡ committed_place (nucleus state store.now queue.now images.now) file isn capacity }
 {
-    let usable = usability::usable(state, capacity, store, queue, images);
-    if let Err(_) = usable {
+    if usability::usable(state, capacity, store, queue, images).is_err() {
         return no_place();
     }
-    let d = state.definition;
-    place_found(d, state.count, file, isn, store, queue, images)
+    place_found(
+        state.definition,
+        state.count,
+        file,
+        isn,
+        store,
+        queue,
+        images,
+    )
 }
 
 // The record itself: the part of the image buffer or of the store that lies there.

@@ -6,8 +6,8 @@ ghost use Rattle.std.specs.Prelude.{◌≡◌, ◌≤◌, length};
 ghost use Rattle.database.specs.Database.{database, fitting, reply, direct_call, direct_place};
 ghost use Rattle.nucleus.specs.Nucleus.{nucleus, resulting};
 ghost use Rattle.direct_calls.specs.DirectCalls.{packed_front, unpacked_front, on_words};
-ghost use Rattle.direct_calls.specs.Kept.{kept_result, on_kept_words, kept_reply, kept_call};
-ghost use Rattle.direct_calls.specs.Places.{place_on_words, kept_place_on_words, kept_place};
+ghost use Rattle.direct_calls.specs.Kept.{kept_reply, kept_call};
+ghost use Rattle.direct_calls.specs.Places.{place_on_words, kept_place};
 
 use calls::Outcome;
 use committed::Place;
@@ -16,16 +16,15 @@ use kept_states::{ControlBlock, KeptState, Left};
 use nucleus::{Call, MAX_CAPACITY, State};
 
 // The entries that a call works on: the capacity, or none where that is more than a queue may have or than this one has. No call is served then.
+#[tactic(auto, unfolding(database::specs::Database::fitting))]
 fn fitting(capacity: usize, size: usize) -> usize
     ensures { result ≡ fitting capacity size }
 {
-    if MAX_CAPACITY < capacity {
-        return 0;
+    if MAX_CAPACITY < capacity || size < capacity {
+        0
+    } else {
+        capacity
     }
-    if size < capacity {
-        return 0;
-    }
-    capacity
 }
 
 // The first n entries, as words.
@@ -33,10 +32,8 @@ fn words_out(queue: &[Entry], words: &mut [u64], n: usize)
     requires { (n ≤ length queue.now) × (n ≤ length words.old) }
     ensures { words.new ≡ packed_front n queue.now words.old }
 {
-    let mut i = 0;
-    while i < n {
+    for i in 0..n {
         words[i] = entries::pack(queue[i]);
-        i += 1;
     }
 }
 
@@ -45,10 +42,8 @@ fn words_in(queue: &mut [Entry], words: &[u64], n: usize)
     requires { (n ≤ length queue.old) × (n ≤ length words.now) }
     ensures { queue.new ≡ unpacked_front n words.now queue.old }
 {
-    let mut i = 0;
-    while i < n {
+    for i in 0..n {
         queue[i] = entries::unpack(words[i]);
-        i += 1;
     }
 }
 
@@ -66,7 +61,7 @@ fn on_words(
     ensures { resulting result.answer (nucleus result.state store.new words.new images.new) buffer.new
         ≡ on_words n call format.now buffer.old (nucleus state store.old words.old images.old) }
 {
-    let end = slices::least(n, words.len());
+    let end = n.min(words.len());
     calls::step(
         state,
         n,
@@ -77,28 +72,6 @@ fn on_words(
         format,
         buffer,
     )
-}
-
-// The same for a state and a call as a caller keeps them.
-fn on_kept_words(
-    state: KeptState,
-    n: usize,
-    block: ControlBlock,
-    store: &mut [u8],
-    words: &mut [u64],
-    images: &mut [u8],
-    format: &[u8],
-    buffer: &mut [u8],
-) -> Left
-    ensures { kept_result result store.new words.new images.new buffer.new
-        ≡ on_kept_words n state block store.old words.old images.old format.now buffer.old }
-{
-    let thawed = kept_states::thawed(state);
-    let call = kept_states::call_of(block);
-    let outcome = on_words(thawed, n, call, store, words, images, format, buffer);
-    let answer = outcome.answer;
-    let after = outcome.state;
-    kept_states::left_by(state, block, answer, after)
 }
 
 // One call, for any state, capacity, call and buffers.
@@ -124,6 +97,7 @@ pub fn direct_call(
 }
 
 // The same for a state and a control block as a caller keeps them.
+#[tactic(auto, unfolding(crate::specs::Kept::kept_call))]
 pub fn kept_call(
     state: KeptState,
     capacity: usize,
@@ -137,12 +111,10 @@ pub fn kept_call(
     ensures { kept_reply result store.new queue.new images.new buffer.new
         ≡ kept_call capacity state block store.old queue.old images.old format.now buffer.old }
 {
-    let n = fitting(capacity, queue.len());
-    let mut words = [0u64; MAX_CAPACITY];
-    words_out(queue, &mut words, n);
-    let r = on_kept_words(state, n, block, store, &mut words, images, format, buffer);
-    words_in(queue, &words, n);
-    r
+    let thawed = kept_states::thawed(state);
+    let call = kept_states::call_of(block);
+    let outcome = direct_call(thawed, capacity, call, store, queue, images, format, buffer);
+    kept_states::left_by(state, block, outcome.answer, outcome.state)
 }
 
 // Where the record of a file and an ISN lies as ended transactions left it (document 02, No. 8), on the first n words.
@@ -157,24 +129,8 @@ fn place_on_words(
 ) -> Place
     ensures { result ≡ place_on_words n state file isn store.now words.now images.now }
 {
-    let end = slices::least(n, words.len());
+    let end = n.min(words.len());
     committed_places::committed_place(state, n, file, isn, store, &words[..end], images)
-}
-
-// The same for a state as a caller keeps it.
-fn kept_place_on_words(
-    state: KeptState,
-    n: usize,
-    file: u8,
-    isn: u16,
-    store: &[u8],
-    words: &[u64],
-    images: &[u8],
-) -> Place
-    ensures { result ≡ kept_place_on_words n state file isn store.now words.now images.now }
-{
-    let thawed = kept_states::thawed(state);
-    place_on_words(thawed, n, file, isn, store, words, images)
 }
 
 // Where the record lies, for any state, capacity and lent slices. It is no call, and changes nothing.
@@ -196,6 +152,7 @@ pub fn direct_place(
 }
 
 // The same for a state as a caller keeps it.
+#[tactic(auto, unfolding(crate::specs::Places::kept_place))]
 pub fn kept_place(
     state: KeptState,
     capacity: usize,
@@ -207,8 +164,6 @@ pub fn kept_place(
 ) -> Place
     ensures { result ≡ kept_place capacity state file isn store.now queue.now images.now }
 {
-    let n = fitting(capacity, queue.len());
-    let mut words = [0u64; MAX_CAPACITY];
-    words_out(queue, &mut words, n);
-    kept_place_on_words(state, n, file, isn, store, &words, images)
+    let thawed = kept_states::thawed(state);
+    direct_place(thawed, capacity, file, isn, store, queue, images)
 }

@@ -67,7 +67,7 @@ users_same p es fs h = sym (all_over whose (λ t. p t.0) es) ∙ ap (all (λ t. 
 
 -- ---- the image of an entry that is found
 module _ (capacity : ℕ) (lent : Lent ℕ) (r : Request) (h : Nucleus) (s : Sized capacity lent (definition_of h) h.store h.queue h.images h.state.count)
-    (i isn at : ℕ) (e : Entry) (here : place (definition_of h) r.call.file ≡ Some i) (small : isn < isn_bound) (found_Here : holder_of r h isn ≡ Some (at, e)) where
+    (i isn at : ℕ) (e : Entry) (here : place (definition_of h) r.call.file ≡ Some i) (small : isn < isn_bound) (holder_there : holder_of r h isn ≡ Some (at, e)) where
   abbrev d : Definition
   d = definition_of h
 
@@ -75,12 +75,12 @@ module _ (capacity : ℕ) (lent : Lent ℕ) (r : Request) (h : Nucleus) (s : Siz
   with_image = imaged_at r (Some (at, e)) isn h
 
   inside : at < h.state.count
-  inside = found_inside d h.queue h.images h.state.count s.made.single r.call.file isn at e found_Here
+  inside = found_inside d h.queue h.images h.state.count s.made.single r.call.file isn at e holder_there
 
   queue_imaged : queue_of d with_image.queue with_image.images with_image.state.count
       ≡ map (image_kept (key r.call.file isn) (get d h.store (key r.call.file isn))) (queue_of d h.queue h.images h.state.count)
   queue_imaged =
-      queue_first_change d s.shape capacity h.store h.queue h.images h.state.count s.made r.call.file isn at e small found_Here (record_at r h isn)
+      queue_first_change d s.shape capacity h.store h.queue h.images h.state.count s.made r.call.file isn at e small holder_there (record_at r h isn)
       (record_of (file r h) (part r h) isn) (slot_is r h i isn here small s.made.store_room)
 
   sized_imaged : Sized capacity lent d h.store with_image.queue with_image.images with_image.state.count

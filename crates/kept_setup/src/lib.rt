@@ -29,13 +29,11 @@ pub fn kept_set_up(
     ensures { (queue : List Entry) → length queue ≡ entries → kept_made result store.new ≡ kept_set_up capacity store.old queue images.now table.now }
 {
     let made = setup::set_up_for(table, capacity, store, entries, images);
-    let after = made.state;
-    let state = kept_states::frozen(after);
-    let cause = made.response;
-    let number = response_numbers::number(cause);
+    let state = kept_states::frozen(made.state);
+    let number = response_numbers::number(made.response);
     KeptNucleus {
         state,
-        response: number as u32,
+        response: u32::from(number),
     }
 }
 
@@ -44,15 +42,13 @@ pub fn store_bytes(table: &[u8]) -> usize
     ensures { result ≡ store_bytes table.now }
 {
     let read = reading::read(table);
-    let end = read.end;
-    let Some(at) = end else {
+    let Some(at) = read.end else {
         return 0;
     };
     if at != table.len() {
         return 0;
     }
-    let d = read.definition;
-    layout::store_size(d)
+    layout::store_size(read.definition)
 }
 
 fn image_room(d: Definition, capacity: usize) -> usize
@@ -70,13 +66,11 @@ pub fn image_bytes(table: &[u8], capacity: usize) -> usize
         return 0;
     }
     let read = reading::read(table);
-    let end = read.end;
-    let Some(at) = end else {
+    let Some(at) = read.end else {
         return 0;
     };
     if at != table.len() {
         return 0;
     }
-    let d = read.definition;
-    image_room(d, capacity)
+    image_room(read.definition, capacity)
 }

@@ -50,78 +50,90 @@ pub struct Left {
 }
 
 // A table with a byte in use that numbers no format or option is none, so that every call on it answers 12.
+#[tactic(auto, unfolding(crate::specs::KeptStates::thawed_table))]
 fn thawed_table(count: u8, files: [KeptFile; MAX_FILES]) -> Definition
     ensures { result ≡ thawed_table count files }
 {
     if !kept_tables::files_known(count, files) {
         return definition::no_definition();
     }
-    let thawed = kept_tables::thawed_files(count, files);
     Definition {
         count,
-        files: thawed,
+        files: kept_tables::thawed_files(count, files),
     }
 }
 
+#[tactic(auto, unfolding(crate::specs::KeptStates::thawed))]
 pub fn thawed(k: KeptState) -> State
     ensures { result ≡ thawed k }
 {
-    let files = k.files;
-    let definition = thawed_table(k.count, files);
-    let users = k.users;
-    let et_data = k.et_data;
-    let last_assigned = k.last_assigned;
-    let line = k.wait_queue;
+    let KeptState {
+        files,
+        users,
+        et_data,
+        last_assigned,
+        ..
+    } = k;
     State {
-        definition,
+        definition: thawed_table(k.count, files),
         clock: k.clock,
         users,
         et_data,
         last_assigned,
         count: k.entries,
-        wait_queue: line,
+        wait_queue: k.wait_queue,
     }
 }
 
+#[tactic(auto, unfolding(crate::specs::KeptStates::frozen))]
 pub fn frozen(s: State) -> KeptState
     ensures { result ≡ frozen s }
 {
-    let definition = s.definition;
-    let files = definition.files;
-    let kept = kept_tables::frozen_files(files);
-    let users = s.users;
-    let et_data = s.et_data;
-    let last_assigned = s.last_assigned;
-    let line = s.wait_queue;
+    let State {
+        users,
+        et_data,
+        last_assigned,
+        ..
+    } = s;
+    let files = kept_tables::frozen_files(s.definition.files);
     KeptState {
-        count: definition.count,
-        files: kept,
+        count: s.definition.count,
+        files,
         clock: s.clock,
         users,
         et_data,
         last_assigned,
         entries: s.count,
-        wait_queue: line,
+        wait_queue: s.wait_queue,
     }
 }
 
 // The state that a call left, with the table as it is kept: no call changes that.
-fn with_kept_table(mut k: KeptState, s: State) -> KeptState
+#[tactic(auto, unfolding(crate::specs::KeptStates::with_kept_table))]
+fn with_kept_table(k: KeptState, s: State) -> KeptState
     ensures { result ≡ with_kept_table k s }
 {
-    let users = s.users;
-    let et_data = s.et_data;
-    let last_assigned = s.last_assigned;
-    let line = s.wait_queue;
-    k.clock = s.clock;
-    k.users = users;
-    k.et_data = et_data;
-    k.last_assigned = last_assigned;
-    k.entries = s.count;
-    k.wait_queue = line;
-    k
+    let State {
+        clock,
+        users,
+        et_data,
+        last_assigned,
+        count,
+        wait_queue,
+        definition: _,
+    } = s;
+    KeptState {
+        clock,
+        users,
+        et_data,
+        last_assigned,
+        entries: count,
+        wait_queue,
+        ..k
+    }
 }
 
+#[tactic(auto, unfolding(crate::specs::KeptStates::call_of))]
 pub fn call_of(b: ControlBlock) -> Call
     ensures { result ≡ call_of b }
 {
@@ -137,26 +149,27 @@ pub fn call_of(b: ControlBlock) -> Call
     }
 }
 
-fn answered(mut b: ControlBlock, answer: Answer, response: u16) -> ControlBlock
+#[tactic(auto, unfolding(crate::specs::KeptStates::answered))]
+fn answered(b: ControlBlock, answer: Answer, response: u16) -> ControlBlock
     ensures { result ≡ answered response answer b }
 {
-    b.response = response;
-    b.answered_isn = answer.isn;
-    b.sequence = answer.sequence;
-    b.quantity = answer.quantity;
-    b
+    ControlBlock {
+        response,
+        answered_isn: answer.isn,
+        sequence: answer.sequence,
+        quantity: answer.quantity,
+        ..b
+    }
 }
 
+#[tactic(auto, unfolding(crate::specs::KeptStates::left_by))]
 pub fn left_by(k: KeptState, b: ControlBlock, answer: Answer, after: State) -> Left
     ensures { result ≡ left_by k b answer after }
 {
-    let state = with_kept_table(k, after);
-    let cause = answer.response;
-    let number = response_numbers::number(cause);
-    let block = answered(b, answer, number);
+    let number = response_numbers::number(answer.response);
     Left {
-        state,
-        block,
-        response: number as u32,
+        state: with_kept_table(k, after),
+        block: answered(b, answer, number),
+        response: u32::from(number),
     }
 }

@@ -33,20 +33,17 @@ fn no_data() -> EtData
 fn fresh_state(definition: Definition) -> State
     ensures { result ≡ fresh_state definition }
 {
-    let users = [sessions::fresh_user(); MAX_USERS];
-    let et_data = [no_data(); MAX_USERS];
-    let line = WaitQueue {
-        places: [0; MAX_USERS],
-        waiting: 0,
-    };
     State {
         definition,
         clock: 0,
-        users,
-        et_data,
+        users: [sessions::fresh_user(); MAX_USERS],
+        et_data: [no_data(); MAX_USERS],
         last_assigned: [0; MAX_FILES],
         count: 0,
-        wait_queue: line,
+        wait_queue: WaitQueue {
+            places: [0; MAX_USERS],
+            waiting: 0,
+        },
     }
 }
 
@@ -68,10 +65,8 @@ fn freshen(d: Definition, store: &mut [u8])
     ensures { store.new ≡ freshened d (numbers (file_count d) 0) store.old }
 {
     let n = definition::file_count(d);
-    let mut i = 0;
-    while i < n {
+    for i in 0..n {
         freshen_file(d, i, store);
-        i += 1;
     }
 }
 
@@ -79,10 +74,9 @@ fn freshen(d: Definition, store: &mut [u8])
 fn refused(cause: Response) -> Nucleus
     ensures { result ≡ made cause (fresh_state no_definition) }
 {
-    let state = fresh_state(definition::no_definition());
     Nucleus {
         response: cause,
-        state,
+        state: fresh_state(definition::no_definition()),
     }
 }
 
@@ -97,8 +91,7 @@ pub fn set_up_for(
     ensures { (queue : List ℕ) → length queue ≡ entries → set_up_to result store.new queue images.now ≡ set_up capacity store.old queue images.now table.now }
 {
     let read = reading::read(table);
-    let end = read.end;
-    let Some(at) = end else {
+    let Some(at) = read.end else {
         return refused(Response::DefinitionInvalid);
     };
     if at != table.len() {
@@ -109,10 +102,9 @@ pub fn set_up_for(
         return refused(Response::BufferTooShort);
     }
     freshen(d, store);
-    let state = fresh_state(d);
     Nucleus {
         response: Response::Good,
-        state,
+        state: fresh_state(d),
     }
 }
 

@@ -1,6 +1,5 @@
 -- What the rows of 11 and 12 come to, test by test; and what a nucleus that passes them has.
 -- Assumes nothing.
-use Rattle.nucleus.specs.declared.Response.{Response}
 use Rattle.std.specs.Prelude.{ℕ, ◌≡◌, Bool, true, ◌&&◌, List, [], ◌∷◌, leb, None, Ok, Err}
 use Rattle.std.proofs.Math.Path.{sym}
 use Rattle.std.proofs.Common.{◌∙◌}

@@ -12,6 +12,7 @@ use definition::Definition;
 use nucleus::{MAX_CAPACITY, Response, State};
 
 // A lent buffer is too short, or the capacity is not one that a queue may have. Of the queue only the number of its entries is looked at.
+#[tactic(auto, using(lists::specs::Tests::less_is), unfolding(crate::specs::Sizes::too_short_for))]
 pub fn too_short_for(
     d: Definition,
     capacity: usize,
@@ -21,21 +22,13 @@ pub fn too_short_for(
 ) -> bool
     ensures { result ≡ too_short_for d capacity store.now entries images.now }
 {
-    if capacity < 1 {
-        return true;
-    }
-    if MAX_CAPACITY < capacity {
-        return true;
-    }
-    if entries < capacity {
-        return true;
-    }
-    if store.len() < layout::store_size(d) {
-        return true;
-    }
-    !slices::blocks_fit(capacity, layout::image_length(d), images.len())
+    !(1..=MAX_CAPACITY).contains(&capacity)
+        || entries < capacity
+        || store.len() < layout::store_size(d)
+        || !slices::blocks_fit(capacity, layout::image_length(d), images.len())
 }
 
+#[tactic(auto, using(crate::specs::Sizes::too_short_is))]
 fn too_short(d: Definition, capacity: usize, store: &[u8], queue: &[u64], images: &[u8]) -> bool
     ensures { result ≡ too_short d capacity store.now queue.now images.now }
 {
@@ -43,7 +36,13 @@ fn too_short(d: Definition, capacity: usize, store: &[u8], queue: &[u64], images
 }
 
 // The table first, since sizes mean nothing where it is invalid; then the sizes; then the parts of the state.
-pub fn usable(state: State, capacity: usize, store: &[u8], queue: &[u64], images: &[u8]) -> Result<(), Response>
+pub fn usable(
+    state: State,
+    capacity: usize,
+    store: &[u8],
+    queue: &[u64],
+    images: &[u8],
+) -> Result<(), Response>
     ensures { result ≡ verdict (first_cause (rows_usable capacity (nucleus state store.now queue.now images.now))) }
 {
     let d = state.definition;
@@ -53,31 +52,16 @@ pub fn usable(state: State, capacity: usize, store: &[u8], queue: &[u64], images
     if too_short(d, capacity, store, queue, images) {
         return Err(Response::BufferTooShort);
     }
-    let count = state.count;
-    if capacity < count {
-        return Err(Response::StateInvalid);
+    if state.count <= capacity
+        && !repeats::repeated(queue, state.count)
+        && entry_tables::entries_made(d, state.users, queue, state.count)
+        && well_made::users_made(state.users, state.clock)
+        && assigned_isns::assigned_made(d, state.last_assigned)
+        && well_made::data_made(state.et_data)
+        && waiters_made::waiters_made(state.users, state.wait_queue, queue, state.count)
+    {
+        Ok(())
+    } else {
+        Err(Response::StateInvalid)
     }
-    if repeats::repeated(queue, count) {
-        return Err(Response::StateInvalid);
-    }
-    let users = state.users;
-    if !entry_tables::entries_made(d, users, queue, count) {
-        return Err(Response::StateInvalid);
-    }
-    if !well_made::users_made(users, state.clock) {
-        return Err(Response::StateInvalid);
-    }
-    let assigned = state.last_assigned;
-    if !assigned_isns::assigned_made(d, assigned) {
-        return Err(Response::StateInvalid);
-    }
-    let et_data = state.et_data;
-    if !well_made::data_made(et_data) {
-        return Err(Response::StateInvalid);
-    }
-    let line = state.wait_queue;
-    if !waiters_made::waiters_made(users, line, queue, count) {
-        return Err(Response::StateInvalid);
-    }
-    Ok(())
 }

@@ -71,14 +71,14 @@ pub returns-in-Et : goal.returns-in-Et
 returns-in-Et c =
     let a = c.args in
     as_told (goal.at.returns-in-Et c).Start Et _
-    (ended a.call a.most a.clock a.share a.d a.store.now a.queue.now a.images.now a.format.now a.buffer.now _ c.image_length-width.ensures _ a.store.now _ _ c.et.ensures.value c.et.ensures.queue_after c.et.ensures.images_after)
+    (ended a.call a.most a.clock a.share a.d a.store.now a.queue.now a.images.now a.format.now a.buffer.now _ c.image_length.ensures _ a.store.now _ _ c.et.ensures.value c.et.ensures.queue_after c.et.ensures.images_after)
     c.in-Et.is
 
 pub returns-in-Bt : goal.returns-in-Bt
 returns-in-Bt c =
     let a = c.args in
     as_told (goal.at.returns-in-Bt c).Start Bt _
-    (backed_out a.call a.most a.clock a.share a.d a.store.now a.queue.now a.images.now a.format.now a.buffer.now _ c.image_length-width-in-Bt.ensures _ _ _ _ c.bt.ensures.value c.bt.ensures.store_after c.bt.ensures.queue_after c.bt.ensures.images_after)
+    (backed_out a.call a.most a.clock a.share a.d a.store.now a.queue.now a.images.now a.format.now a.buffer.now _ c.image_length-in-Bt.ensures _ _ _ _ c.bt.ensures.value c.bt.ensures.store_after c.bt.ensures.queue_after c.bt.ensures.images_after)
     c.in-Bt.is
 
 pub returns-in-Re : goal.returns-in-Re
@@ -110,6 +110,6 @@ pub returns-in-Hi : goal.returns-in-Hi
 unfolding performed
 returns-in-Hi c =
     let a = c.args in
-    let there = in_group files a.command c.in-Hi.in-Hi-own.keys8 in
+    let there : true ≡ one_of files a.command = search (in_group files a.command) in
     c.in_file.ensures ∙ ap (λ at. in_file a.call a.most a.clock a.share a.d a.store.now a.queue.now a.images.now a.format.now a.buffer.now at a.command) c.requires.found_value
     ∙ sym (of_file a.call a.most a.clock a.share a.d a.store.now a.queue.now a.images.now a.format.now a.buffer.now a.command (sym there))

@@ -41,7 +41,7 @@ pub returns-then-call-eq0 : goal.returns-then-call-eq0
 returns-then-call-eq0 c =
     let a = c.args in
     all_released a.call a.most a.clock a.share a.d a.store.now a.queue.now a.images.now a.format.now a.buffer.now
-    (eq-eqb _ _ c.if-call-eq0.true) _ c.image_length-width.ensures _ _ _ c.ri.ensures.value c.ri.ensures.queue_after c.ri.ensures.images_after
+    (eq-eqb _ _ c.if-call-eq0.true) _ c.image_length.ensures _ _ _ c.ri.ensures.value c.ri.ensures.queue_after c.ri.ensures.images_after
 
 pub returns : goal.returns
 returns c =

@@ -40,10 +40,10 @@ abbrev asked : (c : After-admit-admitted) → Command
 asked c = c.in-Ok.command
 
 understood : (c : After-admit-admitted) → understood_as direct_commands c.args.call ≡ Ok (asked c)
-understood c = sym c.understand-understood.ensures ∙ c.in-Ok.is
+understood c = sym c.understand.ensures ∙ c.in-Ok.is
 
 usable : (c : After-admit-admitted) → first_cause (rows_usable c.args.capacity (begun c)) ≡ None
-usable c = verdict_passed (first_cause (rows_usable c.args.capacity (begun c))) (sym c.usable-usable.ensures ∙ c.in_default.is)
+usable c = verdict_passed (first_cause (rows_usable c.args.capacity (begun c))) (sym c.usable.ensures ∙ c.in_default.is)
 
 user_in : (c : After-admit-admitted) → (1 ≤ c.args.call.user) × (c.args.call.user ≤ 32)
 user_in c =
@@ -65,17 +65,17 @@ returns-in-Err c =
     let a = c.args in
     let n = nucleus a.state a.store.now a.queue.now a.images.now in
     let cause = c.in-Err.cause in
-    let e = verdict_refused (first_cause (rows_usable a.capacity n)) cause (sym c.usable-usable.ensures ∙ c.in-Err.is) in
+    let e = verdict_refused (first_cause (rows_usable a.capacity n)) cause (sym c.usable.ensures ∙ c.in-Err.is) in
     given_back _ _ _ _ _ cause _ _ c.refused.ensures (sym (step_unusable a.capacity a.call a.format.now a.buffer.now n cause e))
 
-pub returns-in-Err-understood : goal.returns-in-Err-understood
-returns-in-Err-understood c =
+pub returns-in-Err-understand : goal.returns-in-Err-understand
+returns-in-Err-understand c =
     let a = c.args in
     let n = nucleus a.state a.store.now a.queue.now a.images.now in
-    let cause = c.in-Err-understood.cause in
-    let fit = verdict_passed (first_cause (rows_usable a.capacity n)) (sym c.usable-usable.ensures ∙ c.in_default.is) in
-    let e = refused_cause direct_commands a.call cause (sym c.understand-understood.ensures ∙ c.in-Err-understood.is) in
-    given_back _ _ _ _ _ cause _ _ c.refused-in-Err-understood.ensures (sym (step_misunderstood a.capacity a.call a.format.now a.buffer.now n fit cause e))
+    let cause = c.in-Err-understand.cause in
+    let fit = verdict_passed (first_cause (rows_usable a.capacity n)) (sym c.usable.ensures ∙ c.in_default.is) in
+    let e = refused_cause direct_commands a.call cause (sym c.understand.ensures ∙ c.in-Err-understand.is) in
+    given_back _ _ _ _ _ cause _ _ c.refused-in-Err-understand.ensures (sym (step_misunderstood a.capacity a.call a.format.now a.buffer.now n fit cause e))
 
 pub returns-in-Err-verdict : goal.returns-in-Err-verdict
 returns-in-Err-verdict c =

@@ -7,10 +7,10 @@ use Rattle.direct_calls.proofs.on_words.Goals as goal
 
 pub slice_bounds-step-end-2 : goal.slice_bounds-step-end-2
 slice_bounds-step-end-2 c =
-    let fit = c.least-end.ensures in
+    let fit = c.min-end.ensures in
     sym (length-take-le _ c.args.words.now (omega (arith, fit)))
 
 pub returns : goal.returns
 returns c =
     let a = c.args in
-    with_others a.n c.least-end.result a.call a.format.now a.buffer.now a.state a.store.now a.words.now a.images.now _ c.least-end.ensures c.step.ensures
+    with_others a.n c.min-end.result a.call a.format.now a.buffer.now a.state a.store.now a.words.now a.images.now _ c.min-end.ensures c.step.ensures

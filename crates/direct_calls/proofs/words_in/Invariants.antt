@@ -1,11 +1,7 @@
 -- `words_in` meets its contract. The loop's invariant: up to `i` what was copied stands, from `i` on the old elements.
-use Prim.Native.Nat.{◌-◌, ◌≤◌}
 use mathlib.Core.Path.{◌≡◌}
 use Rattle.direct_calls.specs.DirectCalls.{unpacked_front}
 use Rattle.direct_calls.proofs.words_in.Given as goal
 
 abbrev pub invariant-loop-i : goal.invariant-loop-i
-invariant-loop-i l = (l.i ≤ l.n) × (l.queue ≡ unpacked_front l.i l.words l.initial.queue)
-
-abbrev pub decreases-loop-i : goal.decreases-loop-i
-decreases-loop-i l = l.n - l.i
+invariant-loop-i l = l.queue ≡ unpacked_front l.i l.words l.initial.queue

@@ -9,10 +9,10 @@ pub loop-i-init : goal.loop-i-init
 loop-i-init c =
     let n : c.file_count-n.result ≡ file_count c.args.d = c.file_count-n.ensures in
     let all : c.file_count-n.result - 0 ≡ file_count c.args.d = omega (arith, n) in
-    (omega arith, n, refl, rw all)
+    (n, refl, rw all)
 
 pub freshen_file-requires : goal.freshen_file-requires
-freshen_file-requires c = record { i_bound = omega (arith, c.loop-i.invariant.1); d_in_bounds = omega (arith, c.loop-i.invariant.2, c.requires) }
+freshen_file-requires c = record { i_bound = omega (arith, c.loop-i.invariant.0); d_in_bounds = omega (arith, c.loop-i.invariant.1, c.requires) }
 
 pub loop-i-preserved : goal.loop-i-preserved
 loop-i-preserved c =
@@ -20,12 +20,12 @@ loop-i-preserved c =
     let n = c.file_count-n.result in
     let i = c.loop-i.i in
     let more : n - i ≡ suc (n - (i + 1)) = omega (arith, c.loop-i-test.true) in
-    (omega arith, c.loop-i.invariant.1, omega (arith, c.freshen_file.auto.store, c.loop-i.invariant.2), rw c.freshen_file.ensures (rw more at c.loop-i.invariant.3))
+    (c.loop-i.invariant.0, omega (arith, c.freshen_file.auto.store, c.loop-i.invariant.1), rw c.freshen_file.ensures (rw more at c.loop-i.invariant.2))
 
 pub shape_of-store : goal.shape_of-store
-shape_of-store c = c.loop-i.invariant.2
+shape_of-store c = c.loop-i.invariant.1
 
 pub returns : goal.returns
 returns c =
     let none : c.file_count-n.result - c.loop-i.i ≡ zero = omega arith in
-    rw none at c.loop-i.invariant.3
+    rw none at c.loop-i.invariant.2

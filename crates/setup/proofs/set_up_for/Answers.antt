@@ -68,5 +68,5 @@ returns c queue e =
     let at = ends _ _ same _ c.in-Some.is in
     let whole = eq-eqb _ _ c.if-at-table.false in
     let long = judged _ _ _ queue _ _ _ _ e c.too_short_for.ensures c.if-too_short_for.false in
-    rw (at, whole, holds_of _ _ same (λ d. too_short d a.capacity a.store.now queue a.images.now) false long, c.fresh_state-state.ensures, c.freshen.ensures)
+    rw (at, whole, holds_of _ _ same (λ d. too_short d a.capacity a.store.now queue a.images.now) false long, c.fresh_state.ensures, c.freshen.ensures)
     (ap (λ (x : Reading). set_up_good a.store.now queue a.images.now x.definition) same)

@@ -12,10 +12,11 @@ use Rattle.nucleus.specs.Rows.{first_cause, rows_usable}
 use Rattle.nucleus.specs.declared.Response.TheVariants.{StateInvalid}
 use Rattle.shares.specs.Shares.{verdict}
 use Rattle.entry_tables.specs.Laws.{entries_judged}
+use Rattle.entry_tables.specs.Tables.{entry_fits, highest_isns}
 use Rattle.usability.proofs.Laws.{table_refused, sizes_refused, state_refused, state_passed, too_many, two_alike, entries_badly, users_badly, assigned_badly, data_badly, line_badly, all_made}
 use Rattle.usability.proofs.Known.{state_known}
 use Rattle.usability.proofs.usable.Goals as goal
-use Rattle.usability.proofs.usable.Goals.{After-entries_made, Else-too_short}
+use Rattle.usability.proofs.usable.Goals.{Else-too_short, else-state-capacity-via-then-state-capacity+then-not-repeated+then-entries_made+then-users_made+then-assigned_made+then-data_made+else-waiters_made, else-state-capacity-via-then-state-capacity+then-not-repeated+then-entries_made+then-users_made+then-assigned_made+else-data_made, else-state-capacity-via-then-state-capacity+then-not-repeated+then-entries_made+then-users_made+else-assigned_made, else-state-capacity-via-then-state-capacity+then-not-repeated+then-entries_made+else-users_made, else-state-capacity-via-then-state-capacity+then-not-repeated+else-entries_made, else-state-capacity-via-then-state-capacity+else-not-repeated, else-state-capacity-via-else-state-capacity}
 
 -- ---- what is known past the first two rows
 module _ (c : Else-too_short) where
@@ -28,12 +29,9 @@ module _ (c : Else-too_short) where
   badly : well_made c.args.capacity lent ≡ false → Err StateInvalid ≡ verdict (first_cause (rows_usable c.args.capacity lent))
   badly w = state_refused c.args.capacity lent table_valid (sym c.too_short.ensures ∙ c.if-too_short.false) w
 
--- the entries, judged by the tables
-entries_are : (c : After-entries_made) → c.entries_made.result ≡ all (entry_made c.args.state) (entries_of (nucleus c.args.state c.args.store.now c.args.queue.now c.args.images.now))
-entries_are c =
-    let a = c.args in
-    let shape = state_known a.state _ c.well_formed.0 in
-    c.entries_made.ensures ∙ entries_judged a.state shape.definition (sym c.valid.ensures ∙ c.if-not-valid.false) (entries_of (nucleus a.state a.store.now a.queue.now a.images.now))
+  -- the entries, judged by the tables
+  entries_are : all (entry_fits (highest_isns c.args.state.definition) c.args.state.users) (entries_of lent) ≡ all (entry_made c.args.state) (entries_of lent)
+  entries_are = entries_judged c.args.state (state_known c.args.state _ c.well_formed.0).definition table_valid (entries_of lent)
 
 pub returns-then-not-valid : goal.returns-then-not-valid
 returns-then-not-valid c =
@@ -45,50 +43,29 @@ returns-then-too_short c =
     let a = c.args in
     sizes_refused _ (nucleus a.state a.store.now a.queue.now a.images.now) (sym c.valid.ensures ∙ c.if-not-valid.false) (sym c.too_short.ensures ∙ c.if-too_short.true)
 
-pub returns-then-capacity-count : goal.returns-then-capacity-count
-returns-then-capacity-count c =
-    let at = (goal.at.returns-then-capacity-count c).Else-too_short in
-    badly at (too_many _ (lent at) (lt-leb _ _ c.if-capacity-count.true))
-
-pub returns-then-repeated : goal.returns-then-repeated
-returns-then-repeated c =
-    let at = (goal.at.returns-then-repeated c).Else-too_short in
-    badly at (two_alike _ (lent at) (sym c.repeated.ensures ∙ c.if-repeated.true))
-
-pub returns-then-not-entries_made : goal.returns-then-not-entries_made
-returns-then-not-entries_made c =
-    let at = goal.at.returns-then-not-entries_made c in
-    badly at.Else-too_short (entries_badly _ (lent at.Else-too_short) (sym (entries_are at.After-entries_made) ∙ c.if-not-entries_made.true))
-
-pub returns-then-not-users_made : goal.returns-then-not-users_made
-returns-then-not-users_made c =
-    let at = (goal.at.returns-then-not-users_made c).Else-too_short in
-    badly at (users_badly _ (lent at) (sym c.users_made.ensures ∙ c.if-not-users_made.true))
-
-pub returns-then-not-assigned_made : goal.returns-then-not-assigned_made
-returns-then-not-assigned_made c =
-    let at = (goal.at.returns-then-not-assigned_made c).Else-too_short in
-    badly at (assigned_badly _ (lent at) (sym c.assigned_made.ensures ∙ c.if-not-assigned_made.true))
-
-pub returns-then-not-data_made : goal.returns-then-not-data_made
-returns-then-not-data_made c =
-    let at = (goal.at.returns-then-not-data_made c).Else-too_short in
-    badly at (data_badly _ (lent at) (sym c.data_made.ensures ∙ c.if-not-data_made.true))
-
-pub returns-then-not-waiters_made : goal.returns-then-not-waiters_made
-returns-then-not-waiters_made c =
-    let at = (goal.at.returns-then-not-waiters_made c).Else-too_short in
-    badly at (line_badly _ (lent at) (sym c.waiters_made.ensures ∙ c.if-not-waiters_made.true))
-
-pub returns : goal.returns
-returns c =
-    let at = (goal.at.returns c).Else-too_short in
-    let few = le-leb _ _ c.if-capacity-count.false in
-    let single = sym c.repeated.ensures ∙ c.if-repeated.false in
-    let made = sym (entries_are (goal.at.returns c).After-entries_made) ∙ c.if-not-entries_made.false in
-    let users = sym c.users_made.ensures ∙ c.if-not-users_made.false in
-    let assigned = sym c.assigned_made.ensures ∙ c.if-not-assigned_made.false in
-    let held = sym c.data_made.ensures ∙ c.if-not-data_made.false in
-    let line = sym c.waiters_made.ensures ∙ c.if-not-waiters_made.false in
+pub returns-then-waiters_made : goal.returns-then-waiters_made
+returns-then-waiters_made c =
+    let at = (goal.at.returns-then-waiters_made c).Else-too_short in
+    let few = le-leb _ _ c.if-state-capacity.true in
+    let single = sym c.repeated.ensures ∙ c.if-not-repeated.true in
+    let made = sym (c.entries_made.ensures ∙ entries_are at) ∙ c.if-entries_made.true in
+    let users = sym c.users_made.ensures ∙ c.if-users_made.true in
+    let assigned = sym c.assigned_made.ensures ∙ c.if-assigned_made.true in
+    let held = sym c.data_made.ensures ∙ c.if-data_made.true in
+    let line = sym c.waiters_made.ensures ∙ c.if-waiters_made.true in
     state_passed _ (lent at) (table_valid at) (sym c.too_short.ensures ∙ c.if-too_short.false)
     (all_made _ (lent at) (table_valid at) few single made users assigned held line)
+
+pub returns-else-state-capacity : goal.returns-else-state-capacity
+returns-else-state-capacity c =
+    let at = (goal.at.returns-else-state-capacity c).Else-too_short in
+    badly at
+    (elim c.else-state-capacity.branch [
+      | else-state-capacity-via-then-state-capacity+then-not-repeated+then-entries_made+then-users_made+then-assigned_made+then-data_made+else-waiters_made w ↦ line_badly _ (lent at) (sym w.waiters_made.ensures ∙ w.if-waiters_made.false)
+      | else-state-capacity-via-then-state-capacity+then-not-repeated+then-entries_made+then-users_made+then-assigned_made+else-data_made w ↦ data_badly _ (lent at) (sym w.data_made.ensures ∙ w.if-data_made.false)
+      | else-state-capacity-via-then-state-capacity+then-not-repeated+then-entries_made+then-users_made+else-assigned_made w ↦ assigned_badly _ (lent at) (sym w.assigned_made.ensures ∙ w.if-assigned_made.false)
+      | else-state-capacity-via-then-state-capacity+then-not-repeated+then-entries_made+else-users_made w ↦ users_badly _ (lent at) (sym w.users_made.ensures ∙ w.if-users_made.false)
+      | else-state-capacity-via-then-state-capacity+then-not-repeated+else-entries_made w ↦ entries_badly _ (lent at) (sym (w.entries_made.ensures ∙ entries_are at) ∙ w.if-entries_made.false)
+      | else-state-capacity-via-then-state-capacity+else-not-repeated w ↦ two_alike _ (lent at) (sym w.repeated.ensures ∙ w.if-not-repeated.false)
+      | else-state-capacity-via-else-state-capacity w ↦ too_many _ (lent at) (lt-leb _ _ w.if-state-capacity.false)
+    ])
