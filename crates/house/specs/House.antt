@@ -1,10 +1,9 @@
 -- The house call list (document 01): one item of the definition table and one call as bytes.
-use Rattle.std.specs.Prelude.{ℕ, ◌+◌, ◌-◌, ◌*◌, Bool, true, ◌&&◌, List, eqb, leb, length, get_or, take, drop, Option, Some, None}
+use Rattle.std.specs.Prelude.{ℕ, ◌+◌, ◌-◌, ◌*◌, ◌≤◌, Bool, ◌&&◌, List, eqb, leb, length, get_or, take, drop, Option, Some, None}
 use Rattle.lists.specs.Tests.{cond, within}
 use Rattle.nucleus.specs.Commands.{code_at}
 use Rattle.nucleus.specs.Nucleus.{Given, given}
 use Rattle.nucleus.specs.declared.Call.{Call}
-use Rattle.lines.specs.Lines.{Within}
 use Rattle.house.specs.declared.Sent.{Sent}
 
 -- ---- the definition table
@@ -87,20 +86,10 @@ given_by bytes =
 unfoldable pub call_of : List ℕ → Option Given
 call_of bytes = cond (well_formed bytes) (Some (given_by bytes)) None
 
--- what is answered of a call: one that is not good means nothing
-unfoldable pub sent_as : Sent → Option Given
-sent_as s = cond s.good (Some (given s.call (take s.format_length s.format) (take s.buffer_length s.buffer))) None
+-- what is answered of a good call
+abbrev pub sent_as : Sent → Given
+sent_as s = given s.call s.format.now s.buffer.now
 
+-- its format and record buffer are no longer than they may be
 abbrev pub Lengths : Sent → Type 0
-Lengths s = Within s.format_length s.format × Within s.buffer_length s.buffer
-
--- the parts of a call as they lie in its bytes
-abbrev pub whole : List ℕ → Sent
-whole bytes = record {
-  good = true;
-  call = arguments bytes;
-  format = take 16 (drop format_at bytes);
-  format_length = byte bytes format_length_at;
-  buffer = take 35 (drop buffer_at bytes);
-  buffer_length = byte bytes buffer_length_at;
-}
+Lengths s = (length s.format.now ≤ 16) × (length s.buffer.now ≤ 35)

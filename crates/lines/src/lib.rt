@@ -14,7 +14,7 @@ fn digit(d: u8) -> u8
     requires { d < 16 }
     ensures { result ≡ digit d }
 {
-    if d < 10 { 48 + d } else { 55 + d }
+    if d < 10 { b'0' + d } else { b'A' - 10 + d }
 }
 
 // A number's digits at a place of `out`, the most significant first; answers the place behind them, as the next ones do.
@@ -60,12 +60,10 @@ fn put_hexadecimal(bytes: &[u8], at: usize, out: &mut [u8]) -> usize
     ensures { Put out.old at (hexadecimal bytes.now) result out.new }
 {
     let mut to = at;
-    let mut i = 0;
-    while i < bytes.len() {
-        out[to] = digit(bytes[i] / 16);
-        out[to + 1] = digit(bytes[i] % 16);
+    for byte in bytes {
+        out[to] = digit(byte / 16);
+        out[to + 1] = digit(byte % 16);
         to += 2;
-        i += 1;
     }
     to
 }
@@ -74,23 +72,14 @@ fn put_hexadecimal(bytes: &[u8], at: usize, out: &mut [u8]) -> usize
 fn reads(command: Command) -> bool
     ensures { result ≡ shows (Some command) }
 {
-    match command {
-        Command::L1 | Command::L4 | Command::Re => true,
-        _ => false,
-    }
+    matches!(command, Command::L1 | Command::L4 | Command::Re)
 }
 
 // Whether the bytes that a call wrote stand in its line.
 fn shows(letters: [u8; 2], quantity: usize) -> bool
     ensures { result ≡ (shows (command_of direct_commands letters) && not (eqb quantity 0)) }
 {
-    if quantity == 0 {
-        return false;
-    }
-    let Some(command) = codes::command_of(letters) else {
-        return false;
-    };
-    reads(command)
+    quantity != 0 && codes::command_of(letters).is_some_and(reads)
 }
 
 // Bytes at the front of `out`, or nothing where it is too short for them, as the next ones do.

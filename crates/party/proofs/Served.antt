@@ -8,20 +8,11 @@ use Rattle.lists.specs.Tests.{cond, Outcome, holds, fails, outcome}
 use Rattle.nucleus.specs.Nucleus.{Nucleus, Given, given, Result}
 use Rattle.nucleus.specs.Step.{step}
 use Rattle.nucleus.specs.Line.{line}
-use Rattle.house.specs.House.{call_length, buffer_length_at, buffer_at, byte, well_formed, given_by, call_of, sent_as}
+use Rattle.house.specs.House.{call_length, buffer_length_at, buffer_at, byte, well_formed, given_by, call_of}
 use Rattle.house.proofs.Laws.{formed_length, formed_buffer}
-use Rattle.house.specs.declared.Sent.{Sent}
 use Rattle.output.specs.Output.{newline, bad, capacity, answered, printed, lines}
 use Rattle.party.proofs.Calls.{enough, answered_same, call_front}
 use Rattle.party.specs.Serving.{Filled, CallPrinted, lines_of}
-
-not_true : (b : Bool) → not b ≡ true → b ≡ false
-not_true true h = sym h
-not_true false h = refl
-
-not_false : (b : Bool) → not b ≡ false → b ≡ true
-not_false true h = refl
-not_false false h = sym h
 
 -- ---- the lines, call by call
 pub no_lines : (xs : List ℕ) (k : Nucleus) → length xs ≡ 0 → lines_of xs k ≡ []
@@ -72,43 +63,36 @@ pub served_none : (r₀ r : Optional (List ℕ)) (n : ℕ) (bytes : List ℕ) (a
 served_none None r n bytes a k long f z = tt
 served_none (Some xs) r n bytes a k long f z = subst (Appends a a) (sym (no_lines xs k (omega (arith, f.0, long, z)))) (Appends-nil a)
 
-pub served_bad : (r₀ r : Optional (List ℕ)) (n : ℕ) (bytes : List ℕ) (a b : Optional (List ℕ)) (k : Nucleus) (s : Sent) → length bytes ≡ 65 → Filled r₀ r n bytes → (n ≡ 0 → ⊥)
-    → sent_as s ≡ call_of (take n bytes) → not s.good ≡ true → Appends a b bad → IfSome r₀ (λ xs. Appends a b (lines_of xs k))
-unfolding sent_as
-served_bad None r n bytes a b k s long f z q not_good w = tt
-served_bad (Some xs) r n bytes a b k s long f z q not_good w =
-    let bad_one : s.good ≡ false = not_true s.good not_good in
-    let call : None ≡ call_of xs = sym (rw bad_one refl) ∙ q ∙ same_call xs r n bytes long f in
+pub served_bad : (r₀ r : Optional (List ℕ)) (n : ℕ) (bytes : List ℕ) (a b : Optional (List ℕ)) (k : Nucleus) → length bytes ≡ 65 → Filled r₀ r n bytes → (n ≡ 0 → ⊥)
+    → None ≡ call_of (take n bytes) → Appends a b bad → IfSome r₀ (λ xs. Appends a b (lines_of xs k))
+served_bad None r n bytes a b k long f z q w = tt
+served_bad (Some xs) r n bytes a b k long f z q w =
+    let call : None ≡ call_of xs = q ∙ same_call xs r n bytes long f in
     subst (Appends a b) (sym (a_line xs k (omega (arith, f.0, long, z)) ∙ ap (λ c. answered c (lines_of (drop call_length xs)) k) (sym call))) w
 
 abbrev pub Served : List ℕ → Optional (List ℕ) → Optional (List ℕ) → Optional (List ℕ) → Nucleus → Nucleus → Type 0
 Served xs r a b k left =
     (w : List ℕ) × Appends a b w × (call_length ≤ length xs) × (r ≡ Some (drop call_length xs)) × (lines_of xs k ≡ w ++ lines_of (drop call_length xs) left)
 
-pub served : (r₀ r : Optional (List ℕ)) (n : ℕ) (bytes : List ℕ) (a b : Optional (List ℕ)) (k left : Nucleus) (s : Sent) → length bytes ≡ 65 → Filled r₀ r n bytes → (n ≡ 0 → ⊥)
-    → sent_as s ≡ call_of (take n bytes) → not s.good ≡ false
-    → CallPrinted s.call (take s.buffer_length s.buffer) (step capacity s.call (take s.format_length s.format) (take s.buffer_length s.buffer) k) a b left
+pub served : (r₀ r : Optional (List ℕ)) (n : ℕ) (bytes : List ℕ) (a b : Optional (List ℕ)) (k left : Nucleus) (g : Given) → length bytes ≡ 65 → Filled r₀ r n bytes → (n ≡ 0 → ⊥)
+    → Some g ≡ call_of (take n bytes) → CallPrinted g.call g.buffer (step capacity g.call g.format g.buffer k) a b left
     → IfSome r₀ (λ xs. Served xs r a b k left)
-unfolding sent_as
-served None r n bytes a b k left s long f z q good p = tt
-served (Some xs) r n bytes a b k left s long f z q good p = (
-  line s.call gone ++ newline ∷ [],
+served None r n bytes a b k left g long f z q p = tt
+served (Some xs) r n bytes a b k left g long f z q p = (
+  line g.call gone ++ newline ∷ [],
   p.1 whole.1,
   whole.0,
   f.2 ∙ ap (λ m. Some (drop m xs)) all_65,
   a_line xs k (omega (arith, f.0, long, z)) ∙ ap (λ c. answered c (lines_of (drop call_length xs)) k) (sym call)
-      ∙ ap (λ m. line s.call gone ++ newline ∷ lines_of (drop call_length xs) m) p.0
-      ∙ sym (append_assoc (line s.call gone) (newline ∷ []) (lines_of (drop call_length xs) left)),
+      ∙ ap (λ m. line g.call gone ++ newline ∷ lines_of (drop call_length xs) m) p.0
+      ∙ sym (append_assoc (line g.call gone) (newline ∷ []) (lines_of (drop call_length xs) left)),
 )
   where
-    g : Given
-    g = given s.call (take s.format_length s.format) (take s.buffer_length s.buffer)
-
     gone : Result
-    gone = step capacity s.call (take s.format_length s.format) (take s.buffer_length s.buffer) k
+    gone = step capacity g.call g.format g.buffer k
 
     call : Some g ≡ call_of xs
-    call = sym (rw (not_false s.good good) refl) ∙ q ∙ same_call xs r n bytes long f
+    call = q ∙ same_call xs r n bytes long f
 
     whole : (call_length ≤ length xs) × (length g.buffer ≤ 35)
     whole = call_whole xs g (sym call)

@@ -7,7 +7,11 @@ use Rattle.reading.specs.Grammar.{read_table}
 use Rattle.house.specs.House.{rest_of_item}
 use Rattle.lists.specs.Tests.{Outcome, holds, fails, outcome}
 use Rattle.party.proofs.Passing.{Passes, passes_start, passes_item, passes_end, passes_none, passes_full}
-use Rattle.party.specs.Serving.{ItemRead, NoItem, TableRead}
+use Rattle.party.specs.Serving.{ItemRead, NoItem, TableRead, TableFound}
+
+-- what holds of what was found holds of it
+pub item_there : {A : Type 0} (P : A → Type 0) (r : Option A) (x : A) → r ≡ Some x → IfSome r P → P x
+item_there P r x e p = let q : IfSome (Some x) P = subst (λ r. IfSome r P) e p in q
 
 -- ---- kinds
 bytes_same : (n m : ℕ) → Some n ≡ Some m → n ≡ m
@@ -52,7 +56,7 @@ module _ (xs : List ℕ) (r left : Option (List ℕ)) (at next : ℕ) (old new :
       (subst (Passes xs) here (passes_item xs at i.0 i.1 some_body p.0), omega (arith, i.2, i.3, length-drop at xs, p.1), lies, behind)
 
   ends : next ≡ at + 1 → TableRead xs left next new
-  ends last = (lies, (λ e q. passes_end xs at zero_kind p.0 e q ∙ sym last), λ h. behind)
+  ends last = (lies, (λ e q. passes_end xs at zero_kind p.0 e q ∙ sym last), behind)
     where
       none_behind : i.0 ≡ 0
       none_behind = omega (arith, i.2, last)
@@ -90,14 +94,11 @@ module _ (xs : List ℕ) (at : ℕ) (p : Passes xs at) where
       go (Some n) k = cut n k (outcome (ltb (length xs - at) (1 + n)))
       go None k = passes_none xs at (λ n k'. no_bytes n (sym k ∙ k')) p
 
-  nowhere : (left : Option (List ℕ)) (new : List ℕ) → ((e : ℕ) → (read_table xs).end ≡ Some e → ⊥) → TableRead xs left 0 new
-  nowhere left new never = (refl, (λ e q. absurd (never e q)), λ h. absurd (omega arith))
-
 pub passed_none : (r₀ r left : Option (List ℕ)) (at room : ℕ) (old new : List ℕ) → IfSome r₀ (λ xs. Passed xs r at old) → IfSome r (λ ys. NoItem ys room) → 1601 ≤ at + room
-    → IfSome r₀ (λ xs. TableRead xs left 0 new)
+    → IfSome r₀ (λ xs. TableFound xs left None new)
 passed_none None r left at room old new p i h = tt
-passed_none (Some xs) r left at room old new p i h = nowhere xs at p.0 left new (stuck xs at p.0 room h (subst (λ r. IfSome r (λ ys. NoItem ys room)) p.3 i))
+passed_none (Some xs) r left at room old new p i h = stuck xs at p.0 room h (subst (λ r. IfSome r (λ ys. NoItem ys room)) p.3 i)
 
-pub passed_full : (r₀ r left : Option (List ℕ)) (at : ℕ) (old new : List ℕ) → IfSome r₀ (λ xs. Passed xs r at old) → 1601 ≤ at → IfSome r₀ (λ xs. TableRead xs left 0 new)
+pub passed_full : (r₀ r left : Option (List ℕ)) (at : ℕ) (old new : List ℕ) → IfSome r₀ (λ xs. Passed xs r at old) → 1601 ≤ at → IfSome r₀ (λ xs. TableFound xs left None new)
 passed_full None r left at old new p h = tt
-passed_full (Some xs) r left at old new p h = nowhere xs at p.0 left new (passes_full xs at h p.0)
+passed_full (Some xs) r left at old new p h = passes_full xs at h p.0

@@ -26,8 +26,12 @@ NoItem xs room = (n : ℕ) → rest_of_item (get_or xs 0 0) ≡ Some n → min (
 
 -- the only place where a good table may end; it is read as far as that
 abbrev pub TableRead : List ℕ → Option (List ℕ) → ℕ → List ℕ → Type 0
-TableRead xs left n table =
-    (take n table ≡ take n xs) × ((e : ℕ) → (read_table xs).end ≡ Some e → e ≡ n) × (0 < n → left ≡ Some (drop n xs))
+TableRead xs left n table = (take n table ≡ take n xs) × ((e : ℕ) → (read_table xs).end ≡ Some e → e ≡ n) × (left ≡ Some (drop n xs))
+
+-- there is none, or it was read
+abbrev pub TableFound : List ℕ → Option (List ℕ) → Option ℕ → List ℕ → Type 0
+TableFound xs left None table = (e : ℕ) → (read_table xs).end ≡ Some e → ⊥
+TableFound xs left (Some n) table = TableRead xs left n table
 
 -- ---- the calls
 -- a call that leaves so much has printed its line, where its record buffer is one of the house call list

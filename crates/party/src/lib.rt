@@ -2,15 +2,16 @@
 // line is printed. What has to be decided is decided below; here it is read and written. Nothing is held but the table and one call.
 #![tactic(auto)]
 
-ghost use Rattle.std.specs.Prelude.{◌≡◌, ◌-◌, ◌^◌, ◌≤◌, ◌<◌, ◌∷◌, ◌++◌, [], length, take, IfOk, OnOk, IfSome};
+ghost use Rattle.std.specs.Prelude.{◌≡◌, ◌-◌, ◌^◌, ◌≤◌, ◌<◌, ◌∷◌, ◌++◌, [], length, IfOk, OnOk, IfSome, IsNone};
 ghost use Rattle.std.specs.Io.KnownBytes.{Appends};
 ghost use Rattle.lines.specs.Lines.{Within};
 ghost use Rattle.nucleus.specs.Nucleus.{nucleus};
 ghost use Rattle.nucleus.specs.Step.{step};
 ghost use Rattle.nucleus.specs.Line.{line_of};
 ghost use Rattle.output.specs.Output.{bad, capacity, newline, output};
-ghost use Rattle.party.specs.Serving.{Filled, ItemRead, NoItem, TableRead, CallPrinted, lines_of, OneServed};
+ghost use Rattle.party.specs.Serving.{Filled, ItemRead, NoItem, TableFound, CallPrinted, lines_of, OneServed};
 
+use house::MAX_BUFFER;
 use nucleus::{Answer, Call, State};
 use std::io;
 use std::io::{Read, Write};
@@ -50,71 +51,59 @@ fn read_full<R: Read>(input: &mut R, buffer: &mut [u8]) -> io::Result<usize>
     Ok(done)
 }
 
-// The next item, read to a place of the table; answers the place behind it, or 0 where it is cut, unknown or finds no room.
-fn read_item<R: Read>(input: &mut R, table: &mut [u8], at: usize) -> io::Result<usize>
-    ensures within { IfOk result (λ next. next ≤ length table.old) }
-    ensures item { IfOk result (λ next. at < next → IfSome (R.remaining input.old) (λ xs. ItemRead xs (R.remaining input.new) at next table.old table.new)) }
-    ensures none { IfOk result (λ next. next ≤ at → IfSome (R.remaining input.old) (λ xs. NoItem xs (length table.old - at))) }
+// The next item, read to a place of the table; answers the place behind it, or none where it is cut, unknown or finds no room.
+fn read_item<R: Read>(input: &mut R, table: &mut [u8], at: usize) -> io::Result<Option<usize>>
+    ensures within { IfOk result (λ r. IfSome r (λ next. (at < next) × (next ≤ length table.old))) }
+    ensures item { IfOk result (λ r. IfSome r (λ next. IfSome (R.remaining input.old) (λ xs. ItemRead xs (R.remaining input.new) at next table.old table.new))) }
+    ensures none { IfOk result (λ r. IsNone r → IfSome (R.remaining input.old) (λ xs. NoItem xs (length table.old - at))) }
 {
     if table.len() <= at {
-        return Ok(0);
+        return Ok(None);
     }
     let body = at + 1;
     if read_full(input, &mut table[at..body])? != 1 {
-        return Ok(0);
+        return Ok(None);
     }
     let Some(n) = house::rest_of_item(table[at]) else {
-        return Ok(0);
+        return Ok(None);
     };
     if table.len() - body < n {
-        return Ok(0);
+        return Ok(None);
     }
     let end = body + n;
     if read_full(input, &mut table[body..end])? != n {
-        return Ok(0);
+        return Ok(None);
     }
-    Ok(end)
+    Ok(Some(end))
 }
 
-// The items up to the end, which is one of a single byte; answers the table's length, or 0 where there is none.
-fn read_table<R: Read>(input: &mut R, table: &mut [u8]) -> io::Result<usize>
-    ensures within { IfOk result (λ n. Within n table.new) }
-    ensures found { 1601 ≤ length table.old → IfOk result (λ n. IfSome (R.remaining input.old) (λ xs. TableRead xs (R.remaining input.new) n table.new)) }
+// The items up to the end, which is one of a single byte; answers the table's length, or none where it has no end.
+fn read_table<R: Read>(input: &mut R, table: &mut [u8]) -> io::Result<Option<usize>>
+    ensures within { IfOk result (λ r. IfSome r (λ n. Within n table.new)) }
+    ensures found { 1601 ≤ length table.old → IfOk result (λ r. IfSome (R.remaining input.old) (λ xs. TableFound xs (R.remaining input.new) r table.new)) }
 {
     let mut at = 0;
     while at < table.len() {
-        let next = read_item(input, table, at)?;
-        if next <= at {
-            return Ok(0);
-        }
+        let Some(next) = read_item(input, table, at)? else {
+            return Ok(None);
+        };
         if next == at + 1 {
-            return Ok(next);
+            return Ok(Some(next));
         }
         at = next;
     }
-    Ok(0)
-}
-
-// The end of a line, written at a place; answers the place behind it, or 0 where there is no room.
-fn put_end(line: &mut [u8], at: usize) -> usize
-    ensures within { Within result line.new }
-    ensures end { at < length line.old → take result line.new ≡ take at line.old ++ newline ∷ [] }
-{
-    if at < line.len() {
-        line[at] = b'\n';
-        return at + 1;
-    }
-    0
+    Ok(None)
 }
 
 // A line and its end go out by one call of the system.
 fn print_line<W: Write>(out: &mut W, call: Call, answer: Answer, buffer: &[u8]) -> io::Result<()>
-    ensures { length buffer.now ≤ 35 → OnOk result (Appends (W.contents out.old) (W.contents out.new) (line_of call answer buffer.now ++ newline ∷ [])) }
+    requires { length buffer.now ≤ 35 }
+    ensures { OnOk result (Appends (W.contents out.old) (W.contents out.new) (line_of call answer buffer.now ++ newline ∷ [])) }
 {
     let mut line = [0u8; LINE];
     let n = lines::line(call, answer, buffer, &mut line);
-    let end = put_end(&mut line, n);
-    out.write_all(&line[..end])
+    line[n] = b'\n';
+    out.write_all(&line[..n + 1])
 }
 
 fn call_and_print<W: Write>(
@@ -127,6 +116,7 @@ fn call_and_print<W: Write>(
     format: &[u8],
     buffer: &mut [u8],
 ) -> io::Result<State>
+    requires { length buffer.old ≤ 35 }
     ensures { IfOk result (λ next. CallPrinted call buffer.old (step capacity call format.now buffer.old (nucleus state store.old queue.old images.old))
         (W.contents out.old) (W.contents out.new) (nucleus next store.new queue.new images.new)) }
 {
@@ -152,25 +142,22 @@ fn serve_one<R: Read, W: Write>(
     if n == 0 {
         return Ok(None);
     }
-    let sent = house::read_call(&bytes[..n]);
-    if !sent.good {
+    let Some(sent) = house::read_call(&bytes[..n]) else {
         print_bad(out)?;
         return Ok(None);
-    }
-    let call = sent.call;
-    let format = sent.format;
-    let format_length = sent.format_length;
-    let mut buffer = sent.buffer;
-    let buffer_length = sent.buffer_length;
+    };
+    let mut copy = [0u8; MAX_BUFFER];
+    let buffer = &mut copy[..sent.buffer.len()];
+    buffer.copy_from_slice(sent.buffer);
     let next = call_and_print(
         out,
-        call,
+        sent.call,
         state,
         store,
         queue,
         images,
-        &format[..format_length],
-        &mut buffer[..buffer_length],
+        sent.format,
+        buffer,
     )?;
     Ok(Some(next))
 }
@@ -202,15 +189,22 @@ pub fn run<R: Read, W: Write>(input: &mut R, out: &mut W) -> io::Result<()>
     ensures { OnOk result (IfSome (R.remaining input.old) (λ xs. length xs < 2 ^ 64 → Appends (W.contents out.old) (W.contents out.new) (output xs))) }
 {
     let mut table = [0u8; MAX_TABLE];
-    let length = read_table(input, &mut table)?;
+    let Some(length) = read_table(input, &mut table)? else {
+        return print_bad(out);
+    };
     let mut store = [0u8; STORE];
     let mut queue = [0u64; CAPACITY];
     let mut images = [0u8; IMAGES];
     let nucleus = setup::set_up(&table[..length], CAPACITY, &mut store, &queue, &images);
-    let response = nucleus.response;
-    if response_numbers::number(response) != 0 {
+    if response_numbers::number(nucleus.response) != 0 {
         return print_bad(out);
     }
-    let state = nucleus.state;
-    serve(input, out, state, &mut store, &mut queue, &mut images)
+    serve(
+        input,
+        out,
+        nucleus.state,
+        &mut store,
+        &mut queue,
+        &mut images,
+    )
 }

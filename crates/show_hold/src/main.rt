@@ -6,6 +6,7 @@
 use definition::Definition;
 use entries::Entry;
 use removal::Removal;
+use show::{Hex, YesOrNo};
 use std::io;
 
 fn house() -> Definition {
@@ -15,22 +16,13 @@ fn house() -> Definition {
 
 fn print_entry(rt: &impl Print, word: u64) -> io::Result<()> {
     let e = entries::unpack(word);
-    show::title(rt, b"entry of user", e.user as u64)?;
-    show::number(rt, e.isn as u64)?;
-    if e.changed {
-        show::text(rt, b" changed")?;
-    }
-    if e.existed {
-        show::text(rt, b" existed")?;
-    }
-    show::text(rt, b"\n")
+    let changed = if e.changed { " changed" } else { "" };
+    let existed = if e.existed { " existed" } else { "" };
+    println!(rt; "entry of user {}: {}{changed}{existed}", e.user, e.isn)
 }
 
 fn print_entries(rt: &impl Print, queue: &[u64], count: usize) -> io::Result<()> {
-    if queue.len() < count {
-        return Ok(());
-    }
-    for word in &queue[..count] {
+    for word in queue.iter().take(count) {
         print_entry(rt, *word)?;
     }
     Ok(())
@@ -49,28 +41,22 @@ fn hold(queue: &mut [u64], count: usize, user: u8, isn: u16) {
 }
 
 fn print_holder(rt: &impl Print, queue: &[u64], count: usize, isn: u16) -> io::Result<()> {
-    show::title(rt, b"among", count as u64)?;
-    show::title(rt, b"holder of", isn as u64)?;
-    let found = queue::holder(queue, count, 1, isn);
-    if let Some((_, e)) = found {
-        show::number(rt, e.user as u64)?;
-    } else {
-        show::text(rt, b"nobody")?;
+    print!(rt; "among {count}: holder of {isn}: ")?;
+    match queue::holder(queue, count, 1, isn) {
+        Some((_, e)) => println!(rt; "{}", e.user),
+        None => println!(rt; "nobody"),
     }
-    show::text(rt, b"\n")
 }
 
 fn print_held_by(rt: &impl Print, queue: &[u64], user: u8) -> io::Result<()> {
-    show::title(rt, b"held by", user as u64)?;
-    show::number(rt, queue::held_by(queue, 3, user) as u64)?;
-    show::text(rt, b"\n")
+    println!(rt; "held by {user}: {}", queue::held_by(queue, 3, user))
 }
 
 fn print_repeated(rt: &impl Print, queue: &[u64], count: usize) -> io::Result<()> {
-    show::title(rt, b"among", count as u64)?;
-    show::text(rt, b"repeated: ")?;
-    show::yes_or_no(rt, repeats::repeated(queue, count))?;
-    show::text(rt, b"\n")
+    println!(rt;
+        "among {count}: repeated: {}",
+        YesOrNo(repeats::repeated(queue, count))
+    )
 }
 
 // Three entries, oldest first. The fourth word is not in use: its ISN is held already, and 12 is given where it is counted.
@@ -96,8 +82,7 @@ fn look(rt: &impl Print, queue: &[u64]) -> io::Result<()> {
 fn put(rt: &impl Print, store: &mut [u8], isn: u16, content: &[u8]) -> io::Result<()> {
     let d = house();
     store::put_record(d.files[0], store, isn, content);
-    show::text(rt, b"store: ")?;
-    show::line(rt, store)
+    println!(rt; "store: {}", Hex(store))
 }
 
 fn keep(
@@ -109,8 +94,7 @@ fn keep(
     content: &[u8],
 ) -> io::Result<()> {
     changes::first_change(queue, images, 3, at, existed, content);
-    show::text(rt, b"images: ")?;
-    show::line(rt, images)
+    println!(rt; "images: {}", Hex(images))
 }
 
 // "Only the first change of an entry keeps an image": the second one of ISN 1 does not renew it. ISN 2 had no record.
@@ -131,8 +115,7 @@ fn change(
 // RI of ISN 0 by user 2: the images move with their entries.
 fn release(rt: &impl Print, queue: &mut [u64], images: &mut [u8]) -> io::Result<()> {
     let left = removal::remove(queue, images, 3, 3, Removal::Unchanged { user: 2 });
-    show::title(rt, b"left", left as u64)?;
-    show::line(rt, images)?;
+    println!(rt; "left {left}: {}", Hex(images))?;
     print_entries(rt, queue, left)
 }
 
@@ -145,8 +128,7 @@ fn back_out(
 ) -> io::Result<()> {
     hold::restore(house(), 3, 1, queue, images, 2, store);
     let left = removal::remove(queue, images, 2, 3, Removal::All { user: 1 });
-    show::title(rt, b"left", left as u64)?;
-    show::line(rt, store)
+    println!(rt; "left {left}: {}", Hex(store))
 }
 
 fn main(rt: HostRuntime) -> io::Result<()> {

@@ -4,56 +4,48 @@
 #![tactic(auto)]
 
 use definition::File;
+use show::{Hex, YesOrNo};
 use std::io;
 
 fn house() -> File {
     let r = reading::read(b"\x01\x01\x00\x03\x02RC\x01AU\x02HH\x02A \x00");
-    let d = r.definition;
-    d.files[0]
+    r.definition.files[0]
 }
 
 fn fresh(rt: &impl Print, part: &mut [u8]) -> io::Result<()> {
     store::fresh(house(), part);
-    show::text(rt, b"fresh: ")?;
-    show::line(rt, part)
+    println!(rt; "fresh: {}", Hex(part))
 }
 
 fn put(rt: &impl Print, part: &mut [u8], isn: u16, content: &[u8]) -> io::Result<()> {
     store::put_record(house(), part, isn, content);
-    show::title(rt, b"put", isn as u64)?;
-    show::line(rt, part)
+    println!(rt; "put {isn}: {}", Hex(part))
 }
 
 fn empty(rt: &impl Print, part: &mut [u8], isn: u16) -> io::Result<()> {
     store::empty(house(), part, isn);
-    show::title(rt, b"empty", isn as u64)?;
-    show::line(rt, part)
+    println!(rt; "empty {isn}: {}", Hex(part))
 }
 
 fn has(rt: &impl Print, part: &[u8], isn: u16) -> io::Result<()> {
-    show::title(rt, b"has", isn as u64)?;
-    show::yes_or_no(rt, store::has_record(house(), part, isn))?;
-    show::text(rt, b"\n")
+    println!(rt;
+        "has {isn}: {}",
+        YesOrNo(store::has_record(house(), part, isn))
+    )
 }
 
 // Option `I`: the lowest ISN at or above one that has a record, or response 3.
 fn lowest(rt: &impl Print, part: &[u8], from: u16) -> io::Result<()> {
-    show::title(rt, b"lowest", from as u64)?;
-    let found = search::lowest(house(), part, from);
-    if let Some(isn) = found {
-        show::number(rt, isn as u64)?;
-    } else {
-        show::text(rt, b"response 3")?;
+    match search::lowest(house(), part, from) {
+        Some(isn) => println!(rt; "lowest {from}: {isn}"),
+        None => println!(rt; "lowest {from}: response 3"),
     }
-    show::text(rt, b"\n")
 }
 
 // Whether a record at an ISN other than the given one has the value in the field at a place: 0 for RC, 1 for HH.
-fn elsewhere(rt: &impl Print, part: &[u8], place: usize, isn: u16, value: &[u8]) -> io::Result<()> {
-    show::text(rt, value)?;
-    show::title(rt, b" elsewhere than", isn as u64)?;
-    show::yes_or_no(rt, search::elsewhere(house(), part, place, isn, value))?;
-    show::text(rt, b"\n")
+fn elsewhere(rt: &impl Print, part: &[u8], place: usize, isn: u16, value: &str) -> io::Result<()> {
+    let found = search::elsewhere(house(), part, place, isn, value.as_bytes());
+    println!(rt; "{value} elsewhere than {isn}: {}", YesOrNo(found))
 }
 
 // Two records. A record that is too short, and one past the highest ISN, are not put.
@@ -73,10 +65,10 @@ fn look(rt: &impl Print, part: &[u8]) -> io::Result<()> {
     lowest(rt, part, 0)?;
     lowest(rt, part, 2)?;
     lowest(rt, part, 4)?;
-    elsewhere(rt, part, 0, 2, b"2")?;
-    elsewhere(rt, part, 0, 1, b"2")?;
-    elsewhere(rt, part, 1, 1, b"CD")?;
-    elsewhere(rt, part, 1, 1, b"EF")
+    elsewhere(rt, part, 0, 2, "2")?;
+    elsewhere(rt, part, 0, 1, "2")?;
+    elsewhere(rt, part, 1, 1, "CD")?;
+    elsewhere(rt, part, 1, 1, "EF")
 }
 
 // "Emptying sets an ISN's first byte to 0 and keeps the rest." An emptied record has no value any more.
@@ -87,6 +79,6 @@ fn main(rt: HostRuntime) -> io::Result<()> {
     empty(&rt, &mut part, 1)?;
     has(&rt, &part, 1)?;
     lowest(&rt, &part, 0)?;
-    elsewhere(&rt, &part, 0, 2, b"2")?;
+    elsewhere(&rt, &part, 0, 2, "2")?;
     empty(&rt, &mut part, 4)
 }

@@ -3,20 +3,16 @@
 #![tactic(auto)]
 
 use definition::Format;
+use show::Hex;
 use std::io;
 
 fn show_packed(rt: &impl Print, value: &[u8]) -> io::Result<()> {
-    show::bytes(rt, value)?;
-    show::text(rt, b" ")?;
-    let kind = Format::Packed;
-    if digits::allowed(kind, value) {
-        let mut stored = [0u8; 3];
-        values::put_stored(kind, value, &mut stored);
-        show::bytes(rt, &stored)?;
-    } else {
-        show::text(rt, b"55")?;
+    if !digits::allowed(Format::Packed, value) {
+        return println!(rt; "{} 55", Hex(value));
     }
-    show::text(rt, b"\n")
+    let mut stored = [0u8; 3];
+    values::put_stored(Format::Packed, value, &mut stored);
+    println!(rt; "{} {}", Hex(value), Hex(&stored))
 }
 
 fn main(rt: HostRuntime) -> io::Result<()> {

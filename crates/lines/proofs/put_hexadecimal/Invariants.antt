@@ -7,9 +7,6 @@ use lib.Seq.{sets}
 use Rattle.nucleus.specs.Line.{hexadecimal}
 use Rattle.lines.proofs.put_hexadecimal.Given as goal
 
-abbrev pub invariant-loop-i : goal.invariant-loop-i
-invariant-loop-i l =
-    (l.i ≤ length l.bytes) × (l.to ≡ l.at + 2 * l.i) × (length l.out ≡ length l.initial.out) × (sets l.initial.out l.at (hexadecimal l.bytes) ≡ sets l.out l.to (hexadecimal (drop l.i l.bytes)))
-
-abbrev pub decreases-loop-i : goal.decreases-loop-i
-decreases-loop-i l = length l.bytes - l.i
+abbrev pub invariant-loop-byte : goal.invariant-loop-byte
+invariant-loop-byte l =
+    (l.to ≡ l.at + 2 * l.byte-index) × (length l.out ≡ length l.initial.out) × (sets l.initial.out l.at (hexadecimal l.bytes) ≡ sets l.out l.to (hexadecimal (drop l.byte-index l.bytes)))
