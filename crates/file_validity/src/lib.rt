@@ -66,7 +66,7 @@ fn fields_valid(f: File) -> bool
             return false;
         }
         let name = name_number(field.name);
-        if names[..i].contains(&name) {
+        if membership::among(&names[..i], name) {
             return false;
         }
         names[i] = name;

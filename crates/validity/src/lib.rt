@@ -14,15 +14,16 @@ fn files_valid(d: Definition) -> bool
     ensures { result ≡ sound file_valid numbered_alike (files_of d) }
 {
     let n = definition::file_count(d);
-    let mut numbers = [0u8; MAX_FILES];
+    let mut numbers = [0u16; MAX_FILES];
     for (i, file) in d.files[..n].iter().enumerate() {
         if !file_validity::file_valid(*file) {
             return false;
         }
-        if numbers[..i].contains(&file.number) {
+        let number = u16::from(file.number);
+        if membership::among(&numbers[..i], number) {
             return false;
         }
-        numbers[i] = file.number;
+        numbers[i] = number;
     }
     true
 }

@@ -1,8 +1,8 @@
 -- `fields_valid` meets its contract. The loop's invariant: the fields passed are sound, their names are kept as numbers, and their lengths are
 -- added up.
 -- Assumes nothing.
-use Rattle.std.proofs.Common.{ℕ, ◌+◌, ◌≤◌, ◌<◌, ◌≡◌, sym, ap, ◌∙◌, true, arith, add-one, rules, eqb, length, take, set, length-set, length-take, get_or, get_or-take, take_all}
-use Rattle.lists.specs.Folds.{Each, any, each_at, each_take, sound}
+use Rattle.std.proofs.Common.{ℕ, ◌+◌, ◌≤◌, ◌<◌, ◌≡◌, sym, ap, ◌∙◌, true, arith, add-one, eqb, length, take, set, length-set, length-take, get_or, get_or-take, take_all}
+use Rattle.lists.specs.Folds.{Each, each_at, each_take, sound}
 use Rattle.lists.specs.Every.{each_with}
 use Rattle.lists.specs.Rows.{row_next}
 use Rattle.definition.specs.Table.{no_field, field_at, field_count, fields_of, named_alike}
@@ -31,15 +31,14 @@ agree f s i h =
 here : (f : File) (n i : ℕ) → i < length (take n f.fields) → get_or (take n f.fields) i no_field ≡ field_at f i
 here f n i h = get_or-take n f.fields i no_field (omega (arith, length-take n f.fields))
 
-pub returns-then-contains : goal.returns-then-contains
-returns-then-contains c =
+pub returns-then-among : goal.returns-then-among
+returns-then-among c =
     let f = c.args.f in
     let s : FileShape f = file_known _ _ c.well_formed.0 in
     let more : c.loop-i.i < field_count f = omega (arith, length-take (field_count f) f.fields) in
     let fits : field_count f ≤ length f.fields = omega (arith, s.places) in
     let name = c.name_number-name.ensures ∙ ap number (here f c.field_count-n.result c.loop-i.i c.loop-i-test.true) in
-    let asked : c.contains.result ≡ any (eqb c.name_number-name.result) (take c.loop-i.i c.loop-i.names) = search rules in
-    let found = rw name at (sym asked ∙ c.if-contains.true) in
+    let found = rw name at (sym c.among.ensures ∙ c.if-among.true) in
     let key = alike_by_key field_valid named_alike (field_count f) f.fields no_field fits c.loop-i.i more number c.loop-i.names c.loop-i.invariant.3 (agree f s c.loop-i.i more) in
     rw (alike_here field_valid named_alike (field_count f) f.fields no_field fits c.loop-i.i more (sym key ∙ found))
 
@@ -57,8 +56,7 @@ loop-i-preserved c =
     let at = here f c.field_count-n.result c.loop-i.i c.loop-i-test.true in
     let name = c.name_number-name.ensures ∙ ap number at in
     let yes = sym (c.field_valid.ensures ∙ ap field_valid at) ∙ c.if-not-field_valid.false in
-    let asked : c.contains.result ≡ any (eqb c.name_number-name.result) (take c.loop-i.i c.loop-i.names) = search rules in
-    let none = rw name at (sym asked ∙ c.if-contains.false) in
+    let none = rw name at (sym c.among.ensures ∙ c.if-among.false) in
     let key = alike_by_key field_valid named_alike (field_count f) f.fields no_field fits c.loop-i.i more number c.loop-i.names c.loop-i.invariant.3 (agree f s c.loop-i.i more) in
     let sum = row_next field_length (field_count f) f.fields no_field fits c.loop-i.i more in (
       length-set c.loop-i.names c.loop-i.i _ ∙ c.loop-i.invariant.0,

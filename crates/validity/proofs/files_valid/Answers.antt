@@ -1,8 +1,8 @@
 -- `files_valid` meets its contract, as `fields_valid` does.
 -- Assumes nothing.
-use Rattle.std.proofs.Common.{ℕ, ◌+◌, set, ◌≤◌, ◌<◌, ◌≡◌, sym, ap, ◌∙◌, arith, rules, eqb, length, take, get_or, get_or-take, length-set, length-take, take_all}
+use Rattle.std.proofs.Common.{ℕ, ◌+◌, set, ◌≤◌, ◌<◌, ◌≡◌, sym, ap, ◌∙◌, arith, eqb, length, take, get_or, get_or-take, length-set, length-take, take_all}
 use Rattle.lists.specs.Tests.{eqb_comm}
-use Rattle.lists.specs.Folds.{Each, any, each_index}
+use Rattle.lists.specs.Folds.{Each, each_index}
 use Rattle.definition.specs.Table.{beyond, file_at, file_count, files_of, numbered_alike}
 use Rattle.definition.specs.Shape.{DefinitionShape}
 use Rattle.definition.specs.declared.Definition.{Definition}
@@ -30,15 +30,15 @@ returns-then-not-file_valid c =
     let no = sym (c.file_valid.ensures ∙ ap file_valid (here d c.file_count-n.result c.loop-i.i c.loop-i-test.true)) ∙ c.if-not-file_valid.true in
     rw (unsound_here file_valid numbered_alike (file_count d) d.files beyond fits c.loop-i.i more no)
 
-pub returns-then-contains : goal.returns-then-contains
-returns-then-contains c =
+pub returns-then-among : goal.returns-then-among
+returns-then-among c =
     let d = c.args.d in
     let s : DefinitionShape d = definition_known _ _ c.well_formed.0 in
     let more : c.loop-i.i < file_count d = omega (arith, length-take (file_count d) d.files) in
     let fits : file_count d ≤ length d.files = omega (arith, s.places) in
     let key = alike_by_key file_valid numbered_alike (file_count d) d.files beyond fits c.loop-i.i more number c.loop-i.numbers c.loop-i.invariant.1 (agree d c.loop-i.i) in
-    let asked : c.contains.result ≡ any (eqb (number (get_or (take c.file_count-n.result d.files) c.loop-i.i beyond))) (take c.loop-i.i c.loop-i.numbers) = search rules in
-    let found = rw (here d c.file_count-n.result c.loop-i.i c.loop-i-test.true) at (sym asked ∙ c.if-contains.true) in
+    let name = c.from-number.ensures ∙ ap number (here d c.file_count-n.result c.loop-i.i c.loop-i-test.true) in
+    let found = rw name at (sym c.among.ensures ∙ c.if-among.true) in
     rw (alike_here file_valid numbered_alike (file_count d) d.files beyond fits c.loop-i.i more (sym key ∙ found))
 
 pub loop-i-preserved : goal.loop-i-preserved
@@ -50,10 +50,10 @@ loop-i-preserved c =
     let at = here d c.file_count-n.result c.loop-i.i c.loop-i-test.true in
     let key = alike_by_key file_valid numbered_alike (file_count d) d.files beyond fits c.loop-i.i more number c.loop-i.numbers c.loop-i.invariant.1 (agree d c.loop-i.i) in
     let yes = sym (c.file_valid.ensures ∙ ap file_valid at) ∙ c.if-not-file_valid.false in
-    let asked : c.contains.result ≡ any (eqb (number (get_or (take c.file_count-n.result d.files) c.loop-i.i beyond))) (take c.loop-i.i c.loop-i.numbers) = search rules in
-    let none = rw at at (sym asked ∙ c.if-contains.false) in (
+    let name = c.from-number.ensures ∙ ap number at in
+    let none = rw name at (sym c.among.ensures ∙ c.if-among.false) in (
       length-set c.loop-i.numbers c.loop-i.i _ ∙ c.loop-i.invariant.0,
-      ap (λ k. take (c.loop-i.i + 1) (set c.loop-i.numbers c.loop-i.i k)) (ap number at) ∙ kept_more file_valid numbered_alike (file_count d) d.files beyond fits c.loop-i.i more number c.loop-i.numbers c.loop-i.invariant.1 (omega arith),
+      ap (λ k. take (c.loop-i.i + 1) (set c.loop-i.numbers c.loop-i.i k)) name ∙ kept_more file_valid numbered_alike (file_count d) d.files beyond fits c.loop-i.i more number c.loop-i.numbers c.loop-i.invariant.1 (omega arith),
       sound_so_far file_valid numbered_alike (file_count d) d.files beyond fits c.loop-i.i more c.loop-i.invariant.2 yes (sym key ∙ none),
     )
 
