@@ -28,7 +28,7 @@ fn fits_at(at: usize, width: usize, length: usize) -> bool
 }
 
 // Keeps a record's bytes as the image of the entry at a place; changes nothing where they do not fit.
-#[tactic(auto, using(lists::specs::Parts::patched_sets), unfolding(crate::specs::Changes::keep_image))]
+#[tactic(auto, using(slices::specs::Laws::copied_whole, lists::specs::Parts::patched_sets), unfolding(crate::specs::Changes::keep_image))]
 fn keep_image(images: &mut [u8], width: usize, at: usize, content: &[u8])
     ensures { images.new ≡ keep_image images.old width at content.now }
 {
@@ -40,7 +40,7 @@ fn keep_image(images: &mut [u8], width: usize, at: usize, content: &[u8])
         return;
     }
     let start = at * width;
-    images[start..start + n].copy_from_slice(content);
+    slices::copy(content, &mut images[start..start + n]);
 }
 
 // What the first change of the entry at a place does to queue and images: the entry is changed from now on, and where there is a record it is

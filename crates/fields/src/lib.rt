@@ -46,13 +46,16 @@ fn span_at(f: File, format: &[u8], i: usize) -> Span
 }
 
 // Copies the bytes of a span into the buffer at a place.
-#[tactic(auto, using(lists::specs::Parts::patched_sets, lists::specs::Parts::part_take, lists::specs::Parts::length_piece))]
+#[tactic(auto, using(slices::specs::Laws::copied_whole, lists::specs::Parts::patched_sets, lists::specs::Parts::part_take, lists::specs::Parts::length_piece))]
 fn read_span(s: Span, content: &[u8], buffer: &mut [u8], at: usize)
     requires length_in_bounds { s.start + s.length ≤ length content.now }
     requires length_in_bounds_2 { at + s.length ≤ length buffer.old }
     ensures { buffer.new ≡ sets buffer.old at (span_bytes s content.now) }
 {
-    buffer[at..at + s.length].copy_from_slice(&content[s.start..s.start + s.length]);
+    slices::copy(
+        &content[s.start..s.start + s.length],
+        &mut buffer[at..at + s.length],
+    );
 }
 
 // Puts the value at a place, in stored form, into a span.

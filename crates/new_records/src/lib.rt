@@ -20,11 +20,12 @@ fn slot_bytes(f: File, part: &[u8], isn: u16) -> &[u8]
 }
 
 // Makes a record over a copy of the old bytes: null but for the named fields.
+#[tactic(auto, using(slices::specs::Laws::copied_whole))]
 fn make(f: File, old: &[u8], format: &[u8], buffer: &[u8], content: &mut [u8])
     requires { length content.old ≡ length old.now }
     ensures { content.new ≡ write_fields f format.now buffer.now (null_record f old.now) }
 {
-    content.copy_from_slice(old);
+    slices::copy(old, content);
     nulls::put_nulls(f, content);
     fields::write_fields(f, format, buffer, content);
 }

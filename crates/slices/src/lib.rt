@@ -13,13 +13,15 @@ pub fn least(a: usize, b: usize) -> usize
     a.min(b)
 }
 
-// Copies as many bytes as both have.
-#[tactic(auto, using(lists::specs::Parts::take_least, lists::specs::Parts::drop_least), unfolding(crate::specs::Slices::copied))]
+// Copies as many bytes as both have. A loop of our own: the library's `copy_from_slice` becomes a call of `memmove`, which the archive for C does not
+// ask for.
 pub fn copy(from: &[u8], to: &mut [u8])
     ensures { to.new ≡ copied from.now to.old }
 {
     let n = from.len().min(to.len());
-    to[..n].copy_from_slice(&from[..n]);
+    for i in 0..n {
+        to[i] = from[i];
+    }
 }
 
 // Four bytes from a place on as one number, the first the lowest.

@@ -45,14 +45,14 @@ pub fn record_part(f: File, part: &[u8], isn: u16) -> &[u8]
 }
 
 // Fills the slot that begins at `at`: 1, and then the bytes.
-#[tactic(auto, using(lists::specs::Pieces::patch_set))]
+#[tactic(auto, using(slices::specs::Laws::copied_whole, lists::specs::Pieces::patch_set))]
 fn fill(part: &mut [u8], at: usize, bytes: &[u8])
     requires { at + 1 + length bytes.now ≤ length part.old }
     ensures { part.new ≡ patch at (length bytes.now + 1) part.old (1 ∷ bytes.now) }
 {
     part[at] = 1;
     let start = at + 1;
-    part[start..start + bytes.len()].copy_from_slice(bytes);
+    slices::copy(bytes, &mut part[start..start + bytes.len()]);
 }
 
 // Puts a record at an ISN. A record of another length than the file's is not put.

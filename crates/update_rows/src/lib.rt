@@ -16,11 +16,12 @@ use nucleus::{Call, Response};
 use shares::Share;
 
 // Makes a record over a copy of the old one, with the named fields replaced.
+#[tactic(auto, using(slices::specs::Laws::copied_whole))]
 fn replace(f: File, old: &[u8], format: &[u8], buffer: &[u8], content: &mut [u8])
     requires { length content.old ≡ length old.now }
     ensures { content.new ≡ write_fields f format.now buffer.now old.now }
 {
-    content.copy_from_slice(old);
+    slices::copy(old, content);
     fields::write_fields(f, format, buffer, content);
 }
 

@@ -67,13 +67,14 @@ fn put_form(format: Format, value: &mut [u8])
 }
 
 // Writes the stored form of a value. Where the lengths differ nothing is written.
+#[tactic(auto, using(slices::specs::Laws::copied_whole))]
 pub fn put_stored<'a, 'b>(format: Format, value: &'a [u8], to: &'b mut [u8])
     ensures { to.new ≡ cond (eqb (length value.now) (length to.old)) (stored format value.now) to.old }
 {
     if value.len() != to.len() {
         return;
     }
-    to.copy_from_slice(value);
+    slices::copy(value, to);
     put_form(format, to);
 }
 
