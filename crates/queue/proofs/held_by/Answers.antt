@@ -1,27 +1,20 @@
--- `held_by` meets its contract: the words that pass the test are as many as their entries add up to. Assumes nothing.
-use Rattle.std.specs.Prelude.{ℕ, ◌≡◌, refl, List, [], ◌∷◌, map, eqb, take, length}
-use Rattle.std.specs.List.{filter}
-use Rattle.std.proofs.Common.{ap, arith, rules, tests, ◌∙◌}
-use Rattle.std.proofs.lemmas.Iterator.{YieldsList-from_slice}
-use Rattle.std.proofs.lemmas.Iterator.Consumers.{YieldsList-at, YieldsList-from_filter, count_from_yields_List}
+-- `held_by` meets its contract. The loop's invariant: the sum so far and the entries that are left add up to the whole.
+-- Assumes nothing.
+use Rattle.std.proofs.Common.{ap, sym, ◌∙◌, arith, eq-eqb, ne_eqb}
 use Rattle.lists.specs.Folds.{total}
-use Rattle.lists.specs.Tests.{Outcome, holds, fails, outcome}
-use Rattle.entries.specs.Entries.{unpack_of}
-use Rattle.entries.proofs.Chains.{entries_taken}
+use Rattle.entries.specs.Entries.{bit}
+use Rattle.entries.proofs.Chains.{entry_taken, none_taken_left}
 use Rattle.queue.specs.Queue.{one_of, held_by}
 use Rattle.queue.proofs.held_by.Goals as goal
+use Rattle.queue.proofs.held_by.Goals.{then-unpack-user, else-unpack-user}
 
-counted : (user : ℕ) (words : List ℕ) → length (filter (λ w. eqb (unpack_of w).user user) words) ≡ total (one_of user) (map unpack_of words)
-counted user [] = refl
-counted user (w ∷ words) = go (outcome (eqb (unpack_of w).user user)) (counted user words)
-  where
-    go : Outcome (eqb (unpack_of w).user user) → length (filter (λ v. eqb (unpack_of v).user user) words) ≡ total (one_of user) (map unpack_of words) → length (filter (λ v. eqb (unpack_of v).user user) (w ∷ words)) ≡ total (one_of user) (map unpack_of (w ∷ words))
-    go (holds t) rest = rw t (omega (arith, rest))
-    go (fails t) rest = rw t (omega (arith, rest))
+pub loop-word-preserved : goal.loop-word-preserved
+loop-word-preserved c =
+    let a = c.args in
+    let next = ap (total (one_of a.user)) (entry_taken a.queue.now a.count c.min-n.result c.min-n.ensures c.loop-word.word-index c.loop-word-test.true) in
+    let one = sym (ap (one_of a.user) c.unpack.ensures) in
+    elim c.if-unpack-user.branch [ then-unpack-user w ↦ (omega arith, omega (arith, next, one ∙ ap bit (eq-eqb _ _ w.if-unpack-user.true))) | else-unpack-user w ↦ (omega arith, omega (arith, next, one ∙ ap bit (ne_eqb _ _ w.if-unpack-user.false))) ]
 
 pub returns : goal.returns
 unfolding held_by
-returns c =
-    let a = c.args in
-    count_from_yields_List c.filter.result c.count.result c.count.ensures.ran (YieldsList-from_filter _ (λ w. eqb (unpack_of w).user a.user) (YieldsList-at c.filter.ensures.source (YieldsList-from_slice (take c.min-n.result a.queue.now) cc)) c.filter.ensures.closure (λ x r q k. search (rules, tests)))
-    ∙ counted a.user (take c.min-n.result a.queue.now) ∙ ap (total (one_of a.user)) (entries_taken a.queue.now a.count c.min-n.result c.min-n.ensures)
+returns c = omega (arith, ap (total (one_of c.args.user)) (none_taken_left c.args.queue.now c.args.count c.min-n.result c.min-n.ensures c.loop-word.word-index c.loop-word-test.false))
