@@ -23,7 +23,8 @@
  *   - Two threads in calls with the same state or buffers at once. Use a lock. Threads with a nucleus each need none, and
  *     towungbe_committed_place, which only reads, needs one only against calls; hold it as long as you read the record.
  *   - A bool that is neither 0 nor 1 (by memcpy, a union, or a file that was read into the state or the queue).
- *   - Too little stack. A call takes some 59,000 bytes of it, 64,000 where it backs users out; let a thread have 64 kilobytes or more.
+ *   - Too little stack. A call takes some 59,000 bytes of it, 64,000 where it backs users out; let a thread have 64
+ *     kilobytes or more.
  *
  * In these cases anything may happen, as with any C function. Everything else is answered: a state that nobody set up or
  * that was damaged gets 12, also where a field has an unknown format or option number, and short buffers get 11.
